@@ -1,0 +1,5 @@
+pub mod Limits
+pub mod Reports
+pub mod Below
+pub mod Sets
+pub mod References
