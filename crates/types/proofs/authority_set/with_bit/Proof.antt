@@ -1,3 +1,4 @@
+-- The bit is clear, so the or is a sum: `or-put`.
 use Prim.Native.Nat.{ℕ, _*_, _%_, _^_}
 use borrow.Author.Needs.{needs}
 use lib.Bits.{bitOr}

@@ -1,3 +1,4 @@
+-- By the two tests.
 use borrow.Author.Tests.{lt-ltb, le-ltb}
 use Rattle.types.specs.References.{orderOf}
 use Rattle.types.proofs.reference.compare.Statement.{statement}

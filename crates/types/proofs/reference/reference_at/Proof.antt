@@ -1,3 +1,4 @@
+-- Six reads; past the end all of them are 0.
 use borrow.Author.Needs.{needs}
 use Rattle.types.proofs.References.{ref-beyond}
 use Rattle.types.specs.References.{refAt}

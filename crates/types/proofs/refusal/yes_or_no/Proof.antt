@@ -1,3 +1,4 @@
+-- By the test.
 use Rattle.types.proofs.refusal.yes_or_no.Statement.{statement}
 use Rattle.types.proofs.refusal.yes_or_no.Tie as tie
 

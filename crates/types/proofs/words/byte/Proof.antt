@@ -1,3 +1,4 @@
+-- In range it is the read, past the end the default.
 use borrow.Author.Needs.{needs}
 use lib.ListN.{List·getD-eq-default}
 use mathlib.Core.Path.{sym}

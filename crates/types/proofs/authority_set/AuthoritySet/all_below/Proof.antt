@@ -1,3 +1,4 @@
+-- The first member from n on, or none, tells whether each is below n.
 use borrow.Author.Needs.{needs}
 use mathlib.Core.Path.{sym, ap, _∙_}
 use Rattle.types.proofs.Members.{next-none, next-some}

@@ -1,3 +1,4 @@
+-- By the word that holds the bit.
 use borrow.Author.Needs.{needs}
 use borrow.Author.Tests.{lt-ltb, le-ltb}
 use Rattle.types.specs.Sets.{memberOf}

@@ -1,3 +1,4 @@
+-- The set bits of both words are the members: `members-ones`. At most 64 a word, so the sum fits.
 use borrow.Author.Needs.{needs}
 use lib.Count.{ones-le}
 use mathlib.Core.Path.{sym}

@@ -1,3 +1,4 @@
+-- By the range of the authority, and whether it was a member.
 use borrow.Author.Needs.{needs}
 use borrow.Author.Tests.{lt-ltb, le-ltb}
 use mathlib.Core.Path.{sym, _∙_}

@@ -1,3 +1,4 @@
+-- The invariant: the search from here on finds what the search from the start finds.
 use Prim.Native.Nat.{_-_}
 use borrow.Author.Needs.{needs}
 use mathlib.Core.Path.{_≡_, refl, sym, _∙_}

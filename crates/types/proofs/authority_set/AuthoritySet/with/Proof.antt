@@ -1,3 +1,4 @@
+-- By the word that holds the bit, and whether the bit was set.
 use Prim.Native.Nat.{ℕ, _<_}
 use borrow.Author.Needs.{needs}
 use borrow.Author.Tests.{lt-ltb, le-ltb}

@@ -1,3 +1,4 @@
+-- The first word that differs decides: `told-differs`, `told-same`.
 use borrow.Author.Needs.{needs}
 use mathlib.Core.Path.{_∙_}
 use Rattle.types.proofs.References.{told-differs, told-same}

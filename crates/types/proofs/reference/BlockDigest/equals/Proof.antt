@@ -1,3 +1,4 @@
+-- Word by word.
 use borrow.Author.Tests.{eq-eqb, ne-eqb}
 use Rattle.types.specs.References.{sameDigest}
 use Rattle.types.proofs.reference.BlockDigest.equals.Statement.{statement}

@@ -1,3 +1,4 @@
+-- The first of round, authority and digest that differs decides.
 use borrow.Author.Needs.{needs}
 use mathlib.Core.Path.{_∙_}
 use Rattle.types.proofs.References.{told-differs, told-same}

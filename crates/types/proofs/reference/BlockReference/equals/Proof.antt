@@ -1,3 +1,4 @@
+-- Authority, round, digest.
 use borrow.Author.Needs.{needs}
 use borrow.Author.Tests.{eq-eqb, ne-eqb}
 use Rattle.types.specs.References.{same}
