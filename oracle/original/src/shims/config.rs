@@ -1,0 +1,3 @@
+//! Reading and writing files is left out.
+
+pub trait ImportExport {}
