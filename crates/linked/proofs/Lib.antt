@@ -1,0 +1,5 @@
+pub mod Marking
+pub mod Stretches
+pub mod Laws
+pub mod Paths
+pub mod Examples

@@ -1,0 +1,174 @@
+-- Laws of the marks: the tests of a row as the code makes them, and the loops that mark, each with a law for the start, a turn and the end.
+use Prim.Native.Nat.{ℕ, suc, _+_, _<_, _≤_}
+use borrow.Author.Tests.{lt-ltb, le-ltb, ltb-true, eq-eqb, ne-eqb, eqb-true, eqb-false}
+use lib.Dec.{ltb, eqb}
+use lib.ListN.{length, getD, drop, set, drop-of-length-le}
+use lib.Seq.{drop-cons, getD-set-same, getD-set-other, set-out}
+use mathlib.Core.Bool.{Bool, true, false, cond, _&&_, _||_}
+use mathlib.Core.List.{List, _∷_}
+use mathlib.Core.Path.{_≡_, refl, sym, _∙_}
+use native.Mathlib.Numerals.{add-one}
+use native.Mathlib.Omega.{arith}
+use Rattle.block_store.specs.Store.{storeOf, fieldOf, includesOf}
+use Rattle.types.proofs.Below.{any-zero, any-suc}
+use Rattle.linked.specs.Linked.{contains, ofRound, parentOf, lower}
+use Rattle.linked.specs.Marks.{keptAt}
+use Rattle.types.proofs.Tests.{by-test, both-left, both-right, and-false}
+use Rattle.types.specs.Below.{anyBelow}
+
+-- ---- a row of a round
+pub of-round-in : (bs : List ℕ) (n round row r : ℕ) → r ≡ fieldOf bs row 1 → row < n → eqb r round ≡ ofRound bs n round row
+unfolding ofRound
+of-round-in bs n round row r er h = rw (lt-ltb row n h, er) refl
+
+pub of-round-out : (bs : List ℕ) (n round row : ℕ) → n ≤ row → false ≡ ofRound bs n round row
+unfolding ofRound
+of-round-out bs n round row h = rw (le-ltb row n h) refl
+
+pub row-of : (bs : List ℕ) (n round b : ℕ) → ofRound bs n round b ≡ true → b < n
+unfolding ofRound
+row-of bs n round b e = ltb-true b n (both-left (ltb b n) (eqb (fieldOf bs b 1) round) e)
+
+pub round-of : (bs : List ℕ) (n round b : ℕ) → ofRound bs n round b ≡ true → fieldOf bs b 1 ≡ round
+unfolding ofRound
+round-of bs n round b e = eqb-true (fieldOf bs b 1) round (both-right (ltb b n) (eqb (fieldOf bs b 1) round) e)
+
+pub other-round : (bs : List ℕ) (n round b : ℕ) → (fieldOf bs b 1 ≡ round → ⊥) → ofRound bs n round b ≡ false
+unfolding ofRound
+other-round bs n round b h = rw (ne-eqb (fieldOf bs b 1) round h, and-false) refl
+
+-- ---- a kept row, a marked row
+and-true : (b : Bool) → (b && true) ≡ b
+and-true true = refl
+and-true false = refl
+
+module _ (bs : List ℕ) (n round : ℕ) (w : List ℕ) (row : ℕ) (t : Bool) (et : t ≡ ofRound bs n round row) where
+  pub kept-one : (x : ℕ) → x ≡ getD w row 0 → x ≡ 1 → t ≡ keptAt bs n round w row
+  unfolding keptAt
+  kept-one x ex e = rw (← ex, e, ← et) (sym (and-true t))
+
+  pub mark-set : t ≡ true → set w row 1 ≡ cond (ofRound bs n round row) (set w row 1) w
+  mark-set e = rw (← et, e) refl
+
+  pub mark-past : t ≡ true → length w ≤ row → w ≡ cond (ofRound bs n round row) (set w row 1) w
+  mark-past e h = rw (← et, e) (sym (set-out w row 1 h))
+
+  pub mark-not : t ≡ false → w ≡ cond (ofRound bs n round row) (set w row 1) w
+  mark-not e = rw (← et, e) refl
+
+pub kept-other : (bs : List ℕ) (n round : ℕ) (w : List ℕ) (row x : ℕ) → x ≡ getD w row 0 → (x ≡ 1 → ⊥) → false ≡ keptAt bs n round w row
+unfolding keptAt
+kept-other bs n round w row x ex h = rw (← ex, ne-eqb x 1 h, and-false) refl
+
+same-arms : {A : Type 0} (t : Bool) (x : A) → cond t x x ≡ x
+same-arms true x = refl
+same-arms false x = refl
+
+-- ---- mark_list: a turn
+module _ (bs : List ℕ) (n round : ℕ) (w : List ℕ) (long : n ≤ length w) (x : ℕ) (rest : List ℕ) (b : ℕ) where
+  abbrev Turn : Type 0
+  Turn = cond (ofRound bs n round b && contains b rest) 1 (getD (cond (ofRound bs n round x) (set w x 1) w) b 0)
+      ≡ cond (ofRound bs n round b && contains b (x ∷ rest)) 1 (getD w b 0)
+
+  turn-other : eqb b x ≡ false → Turn
+  turn-other e =
+      rw e
+      (by-test (ofRound bs n round x)
+      (λ o. rw (o, getD-set-other w x b 1 0 (eqb-false b x e)) refl)
+      (λ o. rw o refl))
+
+  turn-same : b ≡ x → Turn
+  turn-same q =
+      rw (← q, eq-eqb b b refl)
+      (by-test (ofRound bs n round b)
+      (λ o.
+      let h : b < length w = omega (arith, row-of bs n round b o) in
+      rw (o, getD-set-same w b 1 0 h) (same-arms (contains b rest) 1))
+      (λ o. rw o refl))
+
+  turn : Turn
+  turn = by-test (eqb b x) (λ e. turn-same (eqb-true b x e)) turn-other
+
+-- what is left to mark, over what is marked
+abbrev pub MarkFrom : List ℕ → ℕ → ℕ → List ℕ → List ℕ → List ℕ → ℕ → Type 0
+MarkFrom bs n round l w₀ w i =
+    (i ≤ length l) × (length w ≡ length w₀) × ((b : ℕ) → cond (ofRound bs n round b && contains b (drop i l)) 1 (getD w b 0) ≡ cond (ofRound bs n round b && contains b l) 1 (getD w₀ b 0))
+
+pub mark-next : (bs : List ℕ) (n round : ℕ) (l w₀ w w′ : List ℕ) (i x : ℕ) → MarkFrom bs n round l w₀ w i → n ≤ length w₀ → i < length l
+    → x ≡ getD l i 0 → length w′ ≡ length w → w′ ≡ cond (ofRound bs n round x) (set w x 1) w → MarkFrom bs n round l w₀ w′ (i + 1)
+mark-next bs n round l w₀ w w′ i x inv long h ex len ew = (
+  omega arith,
+  omega arith,
+  λ b.
+      let long′ : n ≤ length w = omega arith in
+      rw (add-one, ew, ex) (turn bs n round w long′ (getD l i 0) (drop (suc i) l) b ∙ (rw (drop-cons l i 0 h) at (inv .2 b))),
+)
+
+pub mark-done : (bs : List ℕ) (n round : ℕ) (l w₀ w : List ℕ) (i : ℕ) → MarkFrom bs n round l w₀ w i → length l ≤ i
+    → (b : ℕ) → getD w b 0 ≡ cond (ofRound bs n round b && contains b l) 1 (getD w₀ b 0)
+mark-done bs n round l w₀ w i inv h b = simp (drop-of-length-le l h, and-false) at (inv .2 b)
+
+-- ---- mark_lower: what the rows before k have marked
+abbrev pub LowFrom : List ℕ → List ℕ → ℕ → ℕ → ℕ → List ℕ → List ℕ → ℕ → Type 0
+LowFrom bs is n upper low w₀ w k =
+    (k ≤ n) × (length w ≡ length w₀) × ((b : ℕ) → getD w b 0 ≡ cond (ofRound bs n low b && anyBelow (parentOf (storeOf bs is n) (keptAt bs n upper w₀) b) k) 1 (getD w₀ b 0))
+
+pub low-none : (bs is : List ℕ) (n upper low : ℕ) (w : List ℕ) → LowFrom bs is n upper low w w 0
+low-none bs is n upper low w =
+    (omega arith, refl, λ b. rw (any-zero (parentOf (storeOf bs is n) (keptAt bs n upper w) b), and-false (ofRound bs n low b)) refl)
+
+marked-twice : (o c a : Bool) (z : ℕ) → cond (o && c) 1 (cond (o && a) 1 z) ≡ cond (o && (a || c)) 1 z
+marked-twice true true true z = refl
+marked-twice true true false z = refl
+marked-twice true false true z = refl
+marked-twice true false false z = refl
+marked-twice false c a z = refl
+
+or-false : (a : Bool) → (a || false) ≡ a
+or-false true = refl
+or-false false = refl
+
+module _ (bs is : List ℕ) (n upper low : ℕ) (w₀ w : List ℕ) (k : ℕ) (lt : low < upper) (inv : LowFrom bs is n upper low w₀ w k) where
+  -- marks of the lower round change nothing of the upper one
+  kept-still : keptAt bs n upper w k ≡ keptAt bs n upper w₀ k
+  unfolding keptAt
+  kept-still =
+      by-test (ofRound bs n upper k)
+      (λ o.
+      let q : fieldOf bs k 1 ≡ upper = round-of bs n upper k o in
+      let p : ofRound bs n low k ≡ false = other-round bs n low k (λ r. omega arith) in
+      rw (o, inv .2 k, p) refl)
+      (λ o. rw o refl)
+
+  parent-not : (b : ℕ) → keptAt bs n upper w₀ k ≡ false → parentOf (storeOf bs is n) (keptAt bs n upper w₀) b k ≡ false
+  unfolding parentOf
+  parent-not b e = rw e refl
+
+  parent-is : (b : ℕ) → keptAt bs n upper w₀ k ≡ true → parentOf (storeOf bs is n) (keptAt bs n upper w₀) b k ≡ contains b (includesOf (storeOf bs is n) k)
+  unfolding parentOf
+  parent-is b e = rw e refl
+
+  pub low-pass : (t : Bool) → t ≡ keptAt bs n upper w k → t ≡ false → k < n → LowFrom bs is n upper low w₀ w (k + 1)
+  low-pass t et e h =
+      let not : keptAt bs n upper w₀ k ≡ false = sym kept-still ∙ sym et ∙ e in (
+        omega arith,
+        inv .1,
+        λ b. rw (any-suc (parentOf (storeOf bs is n) (keptAt bs n upper w₀) b) k, parent-not b not, or-false) (inv .2 b),
+      )
+
+  pub low-mark : (t : Bool) (l w′ : List ℕ) → t ≡ keptAt bs n upper w k → t ≡ true → k < n → l ≡ includesOf (storeOf bs is n) k → length w′ ≡ length w
+      → ((b : ℕ) → getD w′ b 0 ≡ cond (ofRound bs n low b && contains b l) 1 (getD w b 0)) → LowFrom bs is n upper low w₀ w′ (k + 1)
+  low-mark t l w′ et e h el len ew =
+      let kept : keptAt bs n upper w₀ k ≡ true = sym kept-still ∙ sym et ∙ e in (
+        omega arith,
+        len ∙ inv .1,
+        λ b.
+            rw (any-suc (parentOf (storeOf bs is n) (keptAt bs n upper w₀) b) k, parent-is b kept, ew b, el, inv .2 b)
+            (marked-twice (ofRound bs n low b) (contains b (includesOf (storeOf bs is n) k)) (anyBelow (parentOf (storeOf bs is n) (keptAt bs n upper w₀) b) k) (getD w₀ b 0)),
+      )
+
+  pub low-done : n ≤ k → (b : ℕ) → getD w b 0 ≡ cond (lower (storeOf bs is n) low (keptAt bs n upper w₀) b) 1 (getD w₀ b 0)
+  unfolding lower
+  low-done h b =
+      let q : k ≡ n = omega (arith, inv .0) in
+      rw q at (inv .2 b)

@@ -1,0 +1,3 @@
+pub mod Linked
+pub mod Marks
+pub mod Paths

@@ -1,0 +1,9 @@
+pub mod Rows
+pub mod Reports
+pub mod Calls
+pub mod Passing
+pub mod Filling
+pub mod Keys
+pub mod Own
+pub mod Examples
+pub mod Meaning
