@@ -175,3 +175,24 @@ given-row s row e = by-test (ltb row (s .count)) (λ t. rw (e, t) refl) (λ t. r
 pub check-done : (s : Store) (row : ℕ) → soundStore maxAuthorities s ≡ true → row < s .count → includesCheck s row ≡ done
 unfolding includesCheck
 check-done s row e h = rw (e, lt-ltb row (s .count) h) refl
+
+-- tables that are sound for a committee are sound where there is none
+pub sound-wider : (a b : ℕ) (s : Store) → a ≤ b → SoundStore a s → SoundStore b s
+sound-wider a b s l ok =
+    record {
+      whole-rows = ok .whole-rows;
+      few-rows = ok .few-rows;
+      few-includes = ok .few-includes;
+      rows-used = ok .rows-used;
+      authorities = λ row h. omega (arith, ok .authorities row h);
+      rounds = ok .rounds;
+      counts = ok .counts;
+      from-zero = ok .from-zero;
+      no-gaps = ok .no-gaps;
+      within = ok .within;
+      smaller-row = ok .smaller-row;
+      smaller-round = ok .smaller-round;
+      distinct = ok .distinct;
+      blocks-zero = ok .blocks-zero;
+      includes-zero = ok .includes-zero;
+    }

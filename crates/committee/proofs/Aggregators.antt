@@ -8,12 +8,11 @@ use mathlib.Core.Logic.{_⊎_, inl, inr}
 use mathlib.Core.Path.{_≡_, refl, sym, ap, _∙_}
 use native.Mathlib.Omega.{arith}
 use Rattle.committee.proofs.Committees.{sound, judged-sound, judged-unsound}
-use Rattle.types.proofs.Below.{sum-pairs}
 use Rattle.committee.specs.Aggregators.{shareOf, stakeWhere, votedOf, newAggregator, SoundAggregator, tallyIn, tallyOf, votedBy, castOf, votableOf, addAggregator, totalStakeOf}
 use Rattle.committee.specs.Committees.{maxTotal, asStake, stakeWords, stakeIn, totalOf, quorumFloor, soundOf, metOf}
 use Rattle.committee.specs.declared.Committee.{Committee}
 use Rattle.committee.specs.declared.aggregator.StakeAggregator.{StakeAggregator}
-use Rattle.types.proofs.Below.{sum-zero, sum-more, sum-mono, sum-ext, sum-le, sum-one, sum-tail}
+use Rattle.types.proofs.Below.{sum-zero, sum-more, sum-mono, sum-ext, sum-le, sum-one, sum-tail, sum-pairs}
 use Rattle.types.proofs.Members.{member-empty, member-with, below-absent, below-intro, below-empty, below-with}
 use Rattle.types.proofs.Tests.{both, both-left, both-right, by-test, fails, clash, lt-or-le, same-test}
 use Rattle.types.specs.Below.{sumBelow}

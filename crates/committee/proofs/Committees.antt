@@ -14,8 +14,8 @@ use Rattle.committee.specs.declared.Authorities.{Authorities}
 use Rattle.committee.specs.declared.Committee.{Committee}
 use Rattle.committee.specs.declared.Leader.{Leader}
 use Rattle.committee.specs.declared.Size.{Size}
-use Rattle.committee.specs.declared.Threshold.{Threshold}
 use Rattle.committee.specs.declared.StakeFound.{StakeFound}
+use Rattle.committee.specs.declared.Threshold.{Threshold}
 use Rattle.types.proofs.Below.{sum-mono, sum-more, all-at, all-intro}
 use Rattle.types.proofs.Reports.{numberOf-one}
 use Rattle.types.proofs.Tests.{both, both-left, both-right, lt-or-le}

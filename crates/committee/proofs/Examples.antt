@@ -1,13 +1,13 @@
 -- Document 01's settled examples P1 and P4, of the definitions, by computation. Assumes nothing.
-use mathlib.Core.Path.{_≡_, refl}
-use mathlib.Core.List.{List, [], _∷_}
-use Prim.Native.Nat.{ℕ, _-_, _^_}
-use Rattle.types.specs.Below.{sumBelow, allBelow}
-use Rattle.types.specs.Reports.{says, done, Refuses}
+use Prim.Native.Nat.{_-_, _^_}
 use mathlib.Core.Bool.{true, false}
+use mathlib.Core.List.{[], _∷_}
+use mathlib.Core.Path.{_≡_, refl}
+use Rattle.committee.specs.Committees.{stakeWords, fitOf, soundOf, noStakes, heldOf, newCommittee, newVerdict, judged, enoughOf}
 use Rattle.committee.specs.declared.Committee.{Committee}
 use Rattle.committee.specs.declared.Threshold.the-variants.{Quorum, Validity}
-use Rattle.committee.specs.Committees.{stakeWords, fitOf, soundOf, noStakes, heldOf, newCommittee, newVerdict, judged, enoughOf}
+use Rattle.types.specs.Below.{sumBelow, allBelow}
+use Rattle.types.specs.Reports.{says, done, Refuses}
 
 -- four stakes of 1
 abbrev four : Committee

@@ -30,7 +30,7 @@ votedOf stakes s = stakeWhere stakes (memberOf s)
 abbrev pub newAggregator : StakeAggregator
 newAggregator = record { votes = emptySet; stake = asStake 0 }
 
--- ---- soundness: "its voters are below the size and its stake is their sum"
+-- ---- soundness: "its voters are below the size and its stake is their sum"; 3 is given exactly when that fails
 
 pub record SoundAggregator (c : Committee) (g : StakeAggregator) : Type 0 where
   pub voters : (a : ℕ) → memberOf (g .votes) a ≡ true → a < c .size

@@ -84,7 +84,7 @@ floorOf c threshold.Skip = c .skip
 abbrev pub metOf : Committee → Threshold → ℕ → Bool
 metOf c th amount = ltb (floorOf c th .0) amount
 
--- ---- soundness: what document 01 asks of a committee, "given exactly when" it fails being 1
+-- ---- soundness: 1 is given exactly when one of these fails
 
 pub record SoundCommittee (c : Committee) : Type 0 where
   pub some : 0 < c .size

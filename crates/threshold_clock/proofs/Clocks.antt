@@ -1,25 +1,25 @@
 -- Laws of the clock: the refusals one by one, the step of the parts against the Rust's, and that a clock stays sound. Assumes nothing.
-use mathlib.Core.Path.{_≡_, refl, sym, ap, _∙_, subst}
-use mathlib.Core.Bool.{Bool, true, false, cond}
-use mathlib.Core.Logic.{_⊎_, inl, inr}
-use mathlib.Core.List.{List}
 use Prim.Native.Nat.{ℕ, _+_, _≤_, _<_, min}
-use native.Mathlib.Omega.{arith}
-use lib.Dec.{ltb, leb}
 use borrow.Author.Tests.{lt-ltb, le-ltb, le-leb, lt-leb, ltb-true, leb-true}
-use Rattle.types.specs.declared.reference.BlockReference.{BlockReference}
-use Rattle.types.specs.Limits.{roundLimit}
-use Rattle.types.specs.Reports.{Report, Refuses, done}
-use Rattle.types.proofs.Tests.{both, both-left, both-right, by-test, lt-or-le}
+use lib.Dec.{ltb, leb}
+use mathlib.Core.Bool.{Bool, true, false, cond}
+use mathlib.Core.List.{List}
+use mathlib.Core.Logic.{_⊎_, inl, inr}
+use mathlib.Core.Path.{_≡_, refl, sym, _∙_, subst}
+use native.Mathlib.Omega.{arith}
+use Rattle.committee.proofs.Aggregators.{cast-is, new-tally, vote-tally, sound-tally, is-sound-tally}
+use Rattle.committee.proofs.Committees.{judged-sound, judged-unsound}
+use Rattle.committee.specs.Aggregators.{newAggregator, tallyOf, votedBy, castOf}
+use Rattle.committee.specs.Committees.{stakeWords, soundOf, metOf}
 use Rattle.committee.specs.declared.Committee.{Committee}
 use Rattle.committee.specs.declared.Threshold.the-variants.{Quorum}
 use Rattle.committee.specs.declared.aggregator.StakeAggregator.{StakeAggregator}
-use Rattle.committee.specs.Committees.{stakeWords, soundOf, judged, metOf}
-use Rattle.committee.specs.Aggregators.{SoundAggregator, newAggregator, tallyOf, votedBy, castOf}
-use Rattle.committee.proofs.Committees.{judged-sound, judged-unsound}
-use Rattle.committee.proofs.Aggregators.{cast-is, new-tally, vote-tally, sound-tally, is-sound-tally}
+use Rattle.threshold_clock.specs.Clocks.{clockAt, startedAt, SoundClock, newVerdict, newClock, stepOf, rangeOf, addVerdict, addClock, countedIn, stepIn}
 use Rattle.threshold_clock.specs.declared.ThresholdClockAggregator.{ThresholdClockAggregator}
-use Rattle.threshold_clock.specs.Clocks.{clockAt, startedAt, SoundClock, newVerdict, newClock, counted, stepOf, rangeOf, addVerdict, addClock, countedIn, stepIn}
+use Rattle.types.proofs.Tests.{both-left, both-right, by-test, lt-or-le}
+use Rattle.types.specs.Limits.{roundLimit}
+use Rattle.types.specs.Reports.{Refuses, done}
+use Rattle.types.specs.declared.reference.BlockReference.{BlockReference}
 
 -- ---- numbers within their limits
 

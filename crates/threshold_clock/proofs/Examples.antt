@@ -1,17 +1,17 @@
 -- Document 01's settled example P8, of the definitions, by computation. Assumes nothing.
-use mathlib.Core.Path.{_≡_, refl}
-use mathlib.Core.Bool.{true, false}
-use mathlib.Core.List.{List, [], _∷_, _++_}
 use Prim.Native.Nat.{ℕ}
-use Rattle.types.specs.declared.reference.BlockReference.{BlockReference}
+use mathlib.Core.Bool.{true, false}
+use mathlib.Core.List.{[], _∷_, _++_}
+use mathlib.Core.Path.{_≡_, refl}
+use Rattle.committee.specs.Aggregators.{votedBy}
+use Rattle.committee.specs.Committees.{stakeWords, fitOf, soundOf, noStakes, heldOf, newCommittee, judged}
+use Rattle.committee.specs.declared.Committee.{Committee}
+use Rattle.threshold_clock.specs.Valid.{votersOf, quorumBelow, blockRange, argumentsOf, validOf}
 use Rattle.types.specs.Below.{sumBelow, allBelow}
 use Rattle.types.specs.References.{reference, wordsOf}
 use Rattle.types.specs.Reports.{says}
 use Rattle.types.specs.Sets.{memberOf, addedOf, withOf}
-use Rattle.committee.specs.declared.Committee.{Committee}
-use Rattle.committee.specs.Committees.{stakeWords, fitOf, soundOf, noStakes, heldOf, newCommittee, judged}
-use Rattle.committee.specs.Aggregators.{votedBy}
-use Rattle.threshold_clock.specs.Valid.{votersOf, quorumBelow, blockRange, argumentsOf, validOf}
+use Rattle.types.specs.declared.reference.BlockReference.{BlockReference}
 
 -- size 4, equal stakes
 abbrev four : Committee

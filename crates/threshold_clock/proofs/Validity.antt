@@ -1,30 +1,30 @@
 -- Laws of the validity test: what is tested before it and its readable record, the votes of the includes one by one, and who they are.
 -- Assumes nothing.
-use mathlib.Core.Path.{_≡_, refl, sym, ap, _∙_}
-use mathlib.Core.Bool.{Bool, true, false, cond, _&&_, _||_}
-use mathlib.Core.List.{List}
 use Prim.Native.Nat.{ℕ, zero, suc, _+_, _-_, _%_, _≤_, _<_}
-use native.Mathlib.Numerals.{add-one}
-use native.Mathlib.Omega.{arith}
+use borrow.Author.Tests.{lt-ltb, le-leb, lt-leb, eq-eqb, ne-eqb, ltb-true, leb-true, eqb-true}
 use lib.Dec.{ltb, leb, eqb}
 use lib.ListN.{length}
-use borrow.Author.Tests.{lt-ltb, le-leb, lt-leb, eq-eqb, ne-eqb, ltb-true, leb-true, eqb-true}
-use Rattle.types.specs.declared.reference.BlockReference.{BlockReference}
-use Rattle.types.specs.Below.{allBelow, anyBelow}
-use Rattle.types.specs.Limits.{roundLimit, maxIncludes, referenceWords}
-use Rattle.types.specs.Reports.{Report, Refuses, says}
-use Rattle.types.specs.Sets.{memberOf, withOf}
-use Rattle.types.proofs.Tests.{both, both-left, both-right, by-test, fails, same-test}
-use Rattle.types.proofs.Below.{all-at, all-intro}
-use Rattle.types.proofs.Members.{member-empty, member-with}
+use mathlib.Core.Bool.{Bool, true, false, cond, _&&_, _||_}
+use mathlib.Core.List.{List}
+use mathlib.Core.Path.{_≡_, refl, sym, ap, _∙_}
+use native.Mathlib.Numerals.{add-one}
+use native.Mathlib.Omega.{arith}
+use Rattle.committee.proofs.Aggregators.{where-ext, cast-is, new-tally, vote-tally, voted-again, voted-new, sound-tally}
+use Rattle.committee.proofs.Committees.{sound, judged-sound, judged-unsound}
+use Rattle.committee.specs.Aggregators.{stakeWhere, newAggregator, tallyOf, votedBy, castOf}
+use Rattle.committee.specs.Committees.{stakeWords, soundOf, metOf}
 use Rattle.committee.specs.declared.Committee.{Committee}
 use Rattle.committee.specs.declared.Threshold.the-variants.{Quorum}
 use Rattle.committee.specs.declared.aggregator.StakeAggregator.{StakeAggregator}
-use Rattle.committee.specs.Committees.{asStake, stakeWords, stakeIn, soundOf, judged, metOf}
-use Rattle.committee.specs.Aggregators.{stakeWhere, newAggregator, tallyOf, votedBy, castOf}
-use Rattle.committee.proofs.Committees.{sound, judged-sound, judged-unsound}
-use Rattle.committee.proofs.Aggregators.{where-ext, cast-is, new-tally, vote-tally, voted-again, voted-new, sound-tally}
 use Rattle.threshold_clock.specs.Valid.{countOf, authorAt, roundAt, knownAt, lowerAt, isAt, hasAt, votersOf, quorumBelow, InRange, blockRange, argumentsOf, validOf}
+use Rattle.types.proofs.Below.{all-at, all-intro}
+use Rattle.types.proofs.Members.{member-empty, member-with}
+use Rattle.types.proofs.Tests.{both, both-left, both-right, by-test, fails, same-test}
+use Rattle.types.specs.Below.{allBelow, anyBelow}
+use Rattle.types.specs.Limits.{roundLimit, maxIncludes, referenceWords}
+use Rattle.types.specs.Reports.{Refuses, says}
+use Rattle.types.specs.Sets.{memberOf}
+use Rattle.types.specs.declared.reference.BlockReference.{BlockReference}
 
 -- ---- what is tested before
 

@@ -1,4 +1,4 @@
-// The clock lent, as in the Rust: taken out, moved forward by the clock by value, and stored back.
+// The clock lent, as in the Rust: taken apart, moved forward by the clock by value, and stored back.
 use crate::Clocked;
 use crate::ThresholdClockAggregator;
 use committee::Committee;
@@ -16,8 +16,14 @@ pub fn add_block(
 ) -> Verdict
     ensures { λ v. ⌜ (reportedVerdict v ≡ addVerdict committee (now (clock .entry)) block) × (now (clock .exit) ≡ addClock committee (now (clock .entry)) block) ⌝ }
 {
-    let after = ThresholdClockAggregator::add_block(*clock, block, committee);
-    *clock = after.clock;
+    let taken = ThresholdClockAggregator {
+        aggregator: clock.aggregator,
+        round: clock.round,
+    };
+    let after = taken.add_block(block, committee);
+    let next = after.clock;
+    clock.aggregator = next.aggregator;
+    clock.round = next.round;
     after.verdict
 }
 

@@ -1,16 +1,16 @@
 -- Each test that fails is one law for verdict and clock; past them the step of the parts is the Rust's.
-use mathlib.Core.Path.{_≡_, sym, ap, _∙_}
+use Prim.Native.Nat.{ℕ}
+use borrow.Author.Needs.{needs}
+use borrow.Author.Tests.{not-true, not-false}
 use mathlib.Core.Bool.{true}
 use mathlib.Core.List.{List}
-use Prim.Native.Nat.{ℕ}
-use borrow.Author.Tests.{not-true, not-false}
-use Rattle.types.specs.Reports.{reportedVerdict}
-use Rattle.committee.specs.Committees.{soundOf}
+use mathlib.Core.Path.{_≡_, sym, ap, _∙_}
 use Rattle.committee.specs.Aggregators.{tallyIn, tallyOf}
-use Rattle.threshold_clock.specs.declared.Clocked.{Clocked}
-use Rattle.threshold_clock.specs.Clocks.{stepIn}
+use Rattle.committee.specs.Committees.{soundOf}
 use Rattle.threshold_clock.proofs.Clocks.{range, step-is, add-unsound, add-untallied, add-out, add-done}
-use borrow.Author.Needs.{needs}
+use Rattle.threshold_clock.specs.Clocks.{stepIn}
+use Rattle.threshold_clock.specs.declared.Clocked.{Clocked}
+use Rattle.types.specs.Reports.{reportedVerdict}
 use Rattle.threshold_clock.proofs.ThresholdClockAggregator.add_block.Statement.{statement}
 use Rattle.threshold_clock.proofs.ThresholdClockAggregator.add_block.Tie as tie
 

@@ -1,9 +1,9 @@
 -- One law for a round within the limit, one for a round above it.
-use mathlib.Core.Path.{ap, _∙_}
-use Rattle.types.specs.Reports.{reportedVerdict}
-use Rattle.threshold_clock.specs.declared.Clocked.{Clocked}
-use Rattle.threshold_clock.proofs.Clocks.{new-high, new-low}
 use borrow.Author.Needs.{needs}
+use mathlib.Core.Path.{ap, _∙_}
+use Rattle.threshold_clock.proofs.Clocks.{new-high, new-low}
+use Rattle.threshold_clock.specs.declared.Clocked.{Clocked}
+use Rattle.types.specs.Reports.{reportedVerdict}
 use Rattle.threshold_clock.proofs.ThresholdClockAggregator.new.Statement.{statement}
 use Rattle.threshold_clock.proofs.ThresholdClockAggregator.new.Tie as tie
 

@@ -1,10 +1,9 @@
 -- Each test that fails is a field of the record `Range` that can't be.
 use mathlib.Core.Path.{sym}
 use native.Mathlib.Omega.{arith}
-use Rattle.types.proofs.Tests.{fails}
-use Rattle.threshold_clock.specs.Clocks.{rangeOf}
 use Rattle.threshold_clock.proofs.Clocks.{range, range-round}
-use borrow.Author.Needs.{needs}
+use Rattle.threshold_clock.specs.Clocks.{rangeOf}
+use Rattle.types.proofs.Tests.{fails}
 use Rattle.threshold_clock.proofs.clock.in_range.Statement.{statement}
 use Rattle.threshold_clock.proofs.clock.in_range.Tie as tie
 

@@ -1,6 +1,6 @@
--- A walk of the code by hand. The borrow is opened, the whole clock is read and passed to the clock by value, the clock that comes back is stored over it,
--- the borrow is closed, and the verdict is returned. The walk opens one struct, the result's, to its two fields; of the function that it calls it
--- knows the contract alone. Assumes nothing.
+-- A walk of the code by hand. The borrow is opened, the two fields of the clock are read and put together in a local, which is passed to the clock by
+-- value; the two fields of the clock that comes back are stored, the borrow is closed, and the verdict is returned. The walk opens the clock and the
+-- result to their fields; of the function that it calls it knows the contract alone. Assumes nothing.
 use Prim.Native.Nat.{ℕ}
 use base.Fml.{GName, Lft, Share, ftrue, flft, fobs, fbor, fat}
 use base.Logic.{SProp, ent, sep, emp, via, fst∗, snd∗, exE, id⊢}
@@ -9,7 +9,7 @@ use contract.Running.{givenOf, tables, tablesOf}
 use denote.Enum.Laws as LE
 use denote.Exit.{yes}
 use denote.Laws.{Is, shows}
-use denote.Memory.{mem}
+use denote.Memory.{mem, cellAt}
 use denote.RattleType.{owns}
 use denote.Ref.{RefT, MutRef, ptr-vals, mut-tells}
 use denote.Signature.{plain}
@@ -35,9 +35,11 @@ use prog.Routine.{Routine}
 use prog.Wp.{Heap, Calls, Loops, WpFn, Tables}
 use sound.WpLaws.{FmC, fmOf, WpFn-mono}
 use types.Kit.{Given, ‵, raw, _⊛_, some, later, _$_, _∵_, !, qed, by, move, keep, drop, use0, use1, split, join, pick, fsplit, fsplit3, fjoin, fjoin3, feqI, suffices, frame, await, rewrite, done}
-use types.Part.{whole, sub, look-in}
-use types.Run.{look, look-raw, init, store-raw, forget, stop, hop, fld, from, load, and-then, no-more, of-opd, assigns, land, returns, enter, alloc1, alloc0, params1, pass1, pass0, free1, free0}
+use types.Part.{whole, sub, look-in, store-in, agg}
+use types.Run.{look, init, forget, stop, hop, fld, from, load, and-then, no-more, of-opd, assigns, land, returns, enter, alloc1, alloc0, params1, pass1, pass0, free1, free0}
 use types.SemTy.{Body}
+use Rattle.committee.proofs.aggregator.StakeAggregator as TG
+use Rattle.committee.proofs.aggregator.StakeAggregator.Laws as LG
 use Rattle.committee.proofs.Committee as TC
 use Rattle.committee.proofs.Committee.Laws as LC
 use Rattle.committee.specs.declared.Committee.{Committee}
@@ -56,6 +58,8 @@ use Rattle.threshold_clock.proofs.lent.add_block.Statement as stated
 use Rattle.threshold_clock.specs.Clocks.{addVerdict, addClock}
 use Rattle.threshold_clock.specs.declared.Clocked.{Clocked}
 use Rattle.threshold_clock.specs.declared.ThresholdClockAggregator.{ThresholdClockAggregator}
+use Rattle.types.proofs.RoundNumber as TR
+use Rattle.types.proofs.RoundNumber.Laws as LR
 use Rattle.types.proofs.reference.BlockReference as TB
 use Rattle.types.proofs.reference.BlockReference.Laws as LB
 use Rattle.types.proofs.refusal.Verdict as TV
@@ -95,6 +99,13 @@ verdict-is o v is = LL.owed TO.the-type LO.the-laws o (v ∷ []) is .0
 
 clock-is : (o : Clocked) (v : Val) → Is TO.the-row o (v ∷ []) → Is TK.the-row (o .clock) (valK (o .clock) ∷ [])
 clock-is o v is = LL.owed TO.the-type LO.the-laws o (v ∷ []) is .1 .0
+
+-- and of a clock's two fields
+votes-are : (k : ThresholdClockAggregator) → Is TK.the-row k (valK k ∷ []) → Is TG.the-row (k .aggregator) (LL.vals TG.the-type LG.the-laws (k .aggregator))
+votes-are k is = LL.owed TK.the-type LK.the-laws k (valK k ∷ []) is .0
+
+round-is : (k : ThresholdClockAggregator) → Is TK.the-row k (valK k ∷ []) → Is TR.the-row (k .round) (LL.vals TR.the-type LR.the-laws (k .round))
+round-is k is = LL.owed TK.the-type LK.the-laws k (valK k ∷ []) is .1 .0
 
 module _ {M : Type 1} (𝓤 : URA M) (H : Heap 𝓤) (A : Atoms 𝓤) (at-mem : Memory → SProp 𝓤) (run : Routine → Fun 𝓤) where
   abbrev After : Contract 𝓤
@@ -145,29 +156,37 @@ module _ {M : Type 1} (𝓤 : URA M) (H : Heap 𝓤) (A : Atoms 𝓤) (W : Given
         qed W ((‵ (flft κ q) ⊛ ‵ ftrue) ∷ ‵ (owns (MutRef (named 0) κ TK.the-row ∷ TB.the-row ∷ TC.the-row ∷ []) x at) ∷ []) ∵ split ! $ move ! (2 ∷ []) $ fsplit ! $ fsplit3 ! $ drop ! $ keep ! (0 ∷ 1 ∷ 3 ∷ []) $
         -- [obs; the borrow; the token]
         enter ! C Λ code.function (vptr p o ∷ valB b ∷ valC c ∷ []) _ $
-        alloc1 ! (λ l₀. alloc1 ! (λ l₁. alloc1 ! (λ l₂. alloc1 ! (λ l₃. alloc1 ! (λ l₄. alloc1 ! (λ l₅. alloc0 ! $ params1 ! $
-        pass1 ! (init ! 8 refl (tt, tt)) $ pass1 ! (init ! 6 refl (LL.lawful TB.the-type LB.the-laws 𝓤 H A W .typed b _ gb .0)) $
-        pass1 ! (init ! 4 refl (LL.lawful TC.the-type LC.the-laws 𝓤 H A W .typed c _ gc .0)) $ pass0 ! $
-        move ! (12 ∷ 13 ∷ 14 ∷ []) $ opens ! tt TK.the-row {h = h} p o (λ vs. spelt ! TK.the-row (Is TK.the-row) (shows 𝓤 H A TK.the-row) (LL.vals TK.the-type LK.the-laws) (LL.tells TK.the-type LK.the-laws) fullShare h vs p o $
+        alloc1 ! (λ l₀. alloc1 ! (λ l₁. alloc1 ! (λ l₂. alloc1 ! (λ l₃. alloc1 ! (λ l₄. alloc1 ! (λ l₅. alloc1 ! (λ l₆. alloc1 ! (λ l₇. alloc1 ! (λ l₈. alloc0 ! $ params1 ! $
+        pass1 ! (init ! 14 refl (tt, tt)) $ pass1 ! (init ! 12 refl (LL.lawful TB.the-type LB.the-laws 𝓤 H A W .typed b _ gb .0)) $
+        pass1 ! (init ! 10 refl (LL.lawful TC.the-type LC.the-laws 𝓤 H A W .typed c _ gc .0)) $ pass0 ! $
+        move ! (18 ∷ 19 ∷ 20 ∷ []) $ opens ! tt TK.the-row {h = h} p o (λ vs. spelt ! TK.the-row (Is TK.the-row) (shows 𝓤 H A TK.the-row) (LL.vals TK.the-type LK.the-laws) (LL.tells TK.the-type LK.the-laws) fullShare h vs p o $
         move ! (1 ∷ []) $ facts ! TK.the-row (Is TK.the-row) (shows 𝓤 H A TK.the-row) h (valK h ∷ []) (λ gh.
-        -- [the clock's cell; the open borrow; obs; auth; room for _5; …; room for _4; …; _3; …; _2; …; _1; …; room for _0; …]
-        assigns ! (of-opd ! (load ! (from ! (hop ! (look ! 12 refl) (stop !))) (look-raw ! 0 refl))) (from ! (stop !)) (init ! 4 refl (LL.lawful TK.the-type LK.the-laws 𝓤 H A W .typed h _ gh .0)) $
+        use1 W (‵ (fat fullShare LK.mir p o (valK h))) (W .laws .raw-at fullShare LK.mir p o (valK h)) $
+        -- [the clock's cell; the open borrow; obs; auth; _8; …; _7; …; _6; …; _5; …; _4; …; _3; …; _2; …; _1; …; room for _0; …]
+        assigns ! (of-opd ! (load ! (from ! (hop ! (look ! 18 refl) (fld ! refl (stop !)))) (look-in ! 0 (sub ! 0 refl (whole !))))) (from ! (stop !)) (init ! 6 refl (LL.lawful TG.the-type LG.the-laws 𝓤 H A W .typed (h .aggregator) _ (votes-are h gh) .0)) $
+        assigns ! (of-opd ! (load ! (from ! (hop ! (look ! 18 refl) (fld ! refl (stop !)))) (look-in ! 0 (sub ! 1 refl (whole !))))) (from ! (stop !)) (init ! 4 refl (LL.lawful TR.the-type LR.the-laws 𝓤 H A W .typed (h .round) _ (round-is h gh) .0)) $
+        assigns ! (agg ! (and-then ! (load ! (from ! (stop !)) (look ! 6 refl)) (and-then ! (load ! (from ! (stop !)) (look ! 4 refl)) (no-more !)))) (from ! (stop !)) (init ! 12 refl (LL.lawful TK.the-type LK.the-laws 𝓤 H A W .typed h _ gh .0)) $
         use0 W (raw (After 𝓤 H A at-mem run .pre to)) (goes-after gh) $
         calls-at ! fm (After 𝓤 H A at-mem run) known to
-        (and-then ! (load ! (from ! (stop !)) (look ! 5 refl)) (and-then ! (load ! (from ! (stop !)) (look ! 11 refl)) (and-then ! (load ! (from ! (stop !)) (look ! 9 refl)) (no-more !)))) (λ v.
+        (and-then ! (load ! (from ! (stop !)) (look ! 13 refl)) (and-then ! (load ! (from ! (stop !)) (look ! 17 refl)) (and-then ! (load ! (from ! (stop !)) (look ! 15 refl)) (no-more !)))) (λ v.
         use1 W (later (some (λ (r : Clocked). (‵ ftrue ⊛ ‵ (TO.the-row .own r (v ∷ []))) ⊛ raw (ensured 𝓤 H A after.ended (after.clauses 𝓤 H A at-mem run) tt (h, (b, (c, tt))) tt r)))) (id⊢ 𝓤 _) $ await ! tt $ pick ! (λ r.
         split ! $ move ! (1 ∷ []) $ use1 W (raw (fact 𝓤 (Said h b c r))) (said 𝓤 H A at-mem run h b c r) $ heard ! (Said h b c r) (λ e. split ! $ drop ! $
         facts ! TO.the-row (Is TO.the-row) (shows 𝓤 H A TO.the-row) r (v ∷ []) (λ is.
-        land ! (from ! (stop !)) (init ! 6 refl (LL.lawful TO.the-type LO.the-laws 𝓤 H A W .typed r _ is .0)) $
+        land ! (from ! (stop !)) (init ! 10 refl (LL.lawful TO.the-type LO.the-laws 𝓤 H A W .typed r _ is .0)) $
         -- the result's value is spelled by its record
-        rewrite ! 6 (λ (w : Val). ‵ (fat fullShare LO.mir l₄ 0 w)) (spelled r v is) refl $
-        assigns ! (of-opd ! (load ! (from ! (fld ! refl (stop !))) (look-in ! 6 (sub ! 1 refl (whole !))))) (from ! (hop ! (look ! 12 refl) (stop !))) (store-raw ! 0 refl (LL.lawful TK.the-type LK.the-laws 𝓤 H A W .typed (r .clock) _ (clock-is r v is) .0)) $
-        assigns ! (of-opd ! (load ! (from ! (fld ! refl (stop !))) (look-in ! 6 (sub ! 0 refl (whole !))))) (from ! (stop !)) (init ! 14 refl (LE.lawful TV.the-type LV.the-laws 𝓤 H A W tt .typed (r .verdict) _ (verdict-is r v is) .0)) $
+        rewrite ! 10 (λ (w : Val). ‵ (fat fullShare LO.mir l₅ 0 w)) (spelled r v is) refl $
+        assigns ! (of-opd ! (load ! (from ! (fld ! refl (stop !))) (look-in ! 10 (sub ! 1 refl (whole !))))) (from ! (stop !)) (init ! 8 refl (LL.lawful TK.the-type LK.the-laws 𝓤 H A W .typed (r .clock) _ (clock-is r v is) .0)) $
+        -- the two fields are stored
+        assigns ! (of-opd ! (load ! (from ! (fld ! refl (stop !))) (look-in ! 8 (sub ! 0 refl (whole !))))) (from ! (hop ! (look ! 18 refl) (fld ! refl (stop !)))) (store-in ! 0 (sub ! 0 refl (whole !)) (LL.lawful TG.the-type LG.the-laws 𝓤 H A W .typed (r .clock .aggregator) _ (votes-are (r .clock) (clock-is r v is)) .0)) $
+        assigns ! (of-opd ! (load ! (from ! (fld ! refl (stop !))) (look-in ! 8 (sub ! 1 refl (whole !))))) (from ! (hop ! (look ! 18 refl) (fld ! refl (stop !)))) (store-in ! 0 (sub ! 1 refl (whole !)) (LL.lawful TR.the-type LR.the-laws 𝓤 H A W .typed (r .clock .round) _ (round-is (r .clock) (clock-is r v is)) .0)) $
+        assigns ! (of-opd ! (load ! (from ! (fld ! refl (stop !))) (look-in ! 10 (sub ! 0 refl (whole !))))) (from ! (stop !)) (init ! 20 refl (LE.lawful TV.the-type LV.the-laws 𝓤 H A W tt .typed (r .verdict) _ (verdict-is r v is) .0)) $
+        use1 W (‵ (cellAt fullShare (TK.the-row .mir) (valK (r .clock) ∷ []) p o)) (W .laws .at-raw fullShare LK.mir p o (valK (r .clock))) $
         owned ! TK.the-row (Is TK.the-row) (LL.makes TK.the-type LK.the-plain 𝓤 H A) (r .clock) _ (clock-is r v is) $ move ! (1 ∷ 0 ∷ []) $ closes ! tt TK.the-row (r .clock) (valK (r .clock) ∷ []) p o $
-        -- [obs; the borrow; the token; _5; …; _4; …; _3; …; _2; …; _1; …; _0; …]
-        returns ! (look ! 13 refl) $ forget ! 3 refl $ forget ! 5 refl $ forget ! 7 refl $ forget ! 9 refl $ forget ! 11 refl $ forget ! 13 refl $
-        move ! (13 ∷ 14 ∷ []) $ free1 ! $ move ! (11 ∷ 12 ∷ []) $ free1 ! $ move ! (9 ∷ 10 ∷ []) $ free1 ! $ move ! (7 ∷ 8 ∷ []) $ free1 ! $ move ! (5 ∷ 6 ∷ []) $ free1 ! $ move ! (3 ∷ 4 ∷ []) $ free1 ! $ free0 ! $
-        keep ! (0 ∷ 1 ∷ 2 ∷ []) $ by ! (exits r e (verdict-is r v is))))))))))))))
+        -- [obs; the borrow; the token; _8; …; _7; …; _6; …; _5; …; _4; …; _3; …; _2; …; _1; …; _0; …]
+        returns ! (look ! 19 refl) $ forget ! 3 refl $ forget ! 5 refl $ forget ! 7 refl $ forget ! 9 refl $ forget ! 11 refl $ forget ! 13 refl $ forget ! 15 refl $ forget ! 17 refl $ forget ! 19 refl $
+        move ! (19 ∷ 20 ∷ []) $ free1 ! $ move ! (17 ∷ 18 ∷ []) $ free1 ! $ move ! (15 ∷ 16 ∷ []) $ free1 ! $ move ! (13 ∷ 14 ∷ []) $ free1 ! $ move ! (11 ∷ 12 ∷ []) $ free1 ! $ move ! (9 ∷ 10 ∷ []) $ free1 ! $
+        move ! (7 ∷ 8 ∷ []) $ free1 ! $ move ! (5 ∷ 6 ∷ []) $ free1 ! $ move ! (3 ∷ 4 ∷ []) $ free1 ! $ free0 ! $
+        keep ! (0 ∷ 1 ∷ 2 ∷ []) $ by ! (exits r e (verdict-is r v is)))))))))))))))))
 
 module _ {M : Type 1} (𝓤 : URA M) (H : Heap 𝓤) (A : Atoms 𝓤) (W : Given 𝓤 H A) (at-mem : Memory → SProp 𝓤) (run : Routine → Fun 𝓤) where
   add-walks : (C : Calls 𝓤 H) (Λ : Loops 𝓤 H) → FmC 𝓤 H (W .laws) C → Triple 𝓤 (C #by-value) (After 𝓤 H A at-mem run)

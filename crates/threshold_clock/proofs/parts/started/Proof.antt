@@ -1,8 +1,8 @@
 -- The aggregator is the new one.
+use borrow.Author.Needs.{needs}
 use mathlib.Core.Path.{ap}
 use Rattle.committee.specs.declared.aggregator.StakeAggregator.{StakeAggregator}
 use Rattle.threshold_clock.specs.Clocks.{clockAt}
-use borrow.Author.Needs.{needs}
 use Rattle.threshold_clock.proofs.parts.started.Statement.{statement}
 use Rattle.threshold_clock.proofs.parts.started.Tie as tie
 

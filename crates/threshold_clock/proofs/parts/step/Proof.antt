@@ -1,12 +1,11 @@
 -- One law for each of the four ways out.
-use mathlib.Core.Path.{_≡_, sym, ap, _∙_}
-use mathlib.Core.Bool.{Bool}
-use lib.Dec.{ltb}
-use Rattle.committee.specs.declared.aggregator.StakeAggregator.{StakeAggregator}
-use Rattle.committee.specs.Aggregators.{castOf}
-use Rattle.threshold_clock.specs.Clocks.{clockAt, startedAt}
-use Rattle.threshold_clock.proofs.Clocks.{step-older, step-newer, step-counted, counted-met, counted-short}
 use borrow.Author.Needs.{needs}
+use lib.Dec.{ltb}
+use mathlib.Core.Path.{sym, ap, _∙_}
+use Rattle.committee.specs.Aggregators.{castOf}
+use Rattle.committee.specs.declared.aggregator.StakeAggregator.{StakeAggregator}
+use Rattle.threshold_clock.proofs.Clocks.{step-older, step-newer, step-counted, counted-met, counted-short}
+use Rattle.threshold_clock.specs.Clocks.{clockAt, startedAt}
 use Rattle.threshold_clock.proofs.parts.step.Statement.{statement}
 use Rattle.threshold_clock.proofs.parts.step.Tie as tie
 

@@ -1,16 +1,16 @@
 -- The loop's invariant: each include passed is within the limits.
-use mathlib.Core.Path.{_≡_, sym, ap, _∙_}
-use mathlib.Core.Bool.{Bool, true, false, _&&_}
 use Prim.Native.Nat.{_-_, _≤_}
-use native.Mathlib.Omega.{arith}
-use lib.Dec.{ltb}
+use borrow.Author.Needs.{needs}
 use borrow.Author.Tests.{lt-ltb, le-ltb}
-use Rattle.types.specs.Below.{allBelow}
-use Rattle.types.specs.Limits.{roundLimit}
+use lib.Dec.{ltb}
+use mathlib.Core.Bool.{Bool, true, false, _&&_}
+use mathlib.Core.Path.{_≡_, sym, ap, _∙_}
+use native.Mathlib.Omega.{arith}
+use Rattle.threshold_clock.specs.Valid.{authorAt, roundAt, knownAt}
 use Rattle.types.proofs.Below.{all-zero, all-more, all-fails}
 use Rattle.types.proofs.Tests.{both, and-false}
-use Rattle.threshold_clock.specs.Valid.{authorAt, roundAt, knownAt}
-use borrow.Author.Needs.{needs}
+use Rattle.types.specs.Below.{allBelow}
+use Rattle.types.specs.Limits.{roundLimit}
 use Rattle.threshold_clock.proofs.valid.all_known.Statement.{statement}
 use Rattle.threshold_clock.proofs.valid.all_known.Tie as tie
 

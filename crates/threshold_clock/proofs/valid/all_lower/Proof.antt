@@ -1,13 +1,13 @@
 -- The loop's invariant: each include passed is below the round.
-use mathlib.Core.Path.{_≡_, sym, ap, _∙_}
-use mathlib.Core.Bool.{true, false}
 use Prim.Native.Nat.{_-_, _≤_}
-use native.Mathlib.Omega.{arith}
-use borrow.Author.Tests.{lt-ltb, le-ltb}
-use Rattle.types.specs.Below.{allBelow}
-use Rattle.types.proofs.Below.{all-zero, all-more, all-fails}
-use Rattle.threshold_clock.specs.Valid.{roundAt, lowerAt}
 use borrow.Author.Needs.{needs}
+use borrow.Author.Tests.{lt-ltb, le-ltb}
+use mathlib.Core.Bool.{true, false}
+use mathlib.Core.Path.{_≡_, sym, ap, _∙_}
+use native.Mathlib.Omega.{arith}
+use Rattle.threshold_clock.specs.Valid.{roundAt, lowerAt}
+use Rattle.types.proofs.Below.{all-zero, all-more, all-fails}
+use Rattle.types.specs.Below.{allBelow}
 use Rattle.threshold_clock.proofs.valid.all_lower.Statement.{statement}
 use Rattle.threshold_clock.proofs.valid.all_lower.Tie as tie
 

@@ -1,8 +1,8 @@
 -- One law for each test.
-use mathlib.Core.Path.{sym, _∙_}
-use borrow.Author.Tests.{not-true, not-false}
-use Rattle.threshold_clock.proofs.Validity.{arguments-block, arguments-many, arguments-known}
 use borrow.Author.Needs.{needs}
+use borrow.Author.Tests.{not-true, not-false}
+use mathlib.Core.Path.{sym, _∙_}
+use Rattle.threshold_clock.proofs.Validity.{arguments-block, arguments-many, arguments-known}
 use Rattle.threshold_clock.proofs.valid.arguments_fit.Statement.{statement}
 use Rattle.threshold_clock.proofs.valid.arguments_fit.Tie as tie
 

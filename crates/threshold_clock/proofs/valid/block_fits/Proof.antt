@@ -2,7 +2,6 @@
 use mathlib.Core.Path.{sym}
 use native.Mathlib.Omega.{arith}
 use Rattle.threshold_clock.proofs.Validity.{block-zero, block-high, block-authority}
-use borrow.Author.Needs.{needs}
 use Rattle.threshold_clock.proofs.valid.block_fits.Statement.{statement}
 use Rattle.threshold_clock.proofs.valid.block_fits.Tie as tie
 

@@ -1,19 +1,18 @@
 -- One law for each refusal; past them the votes that the code counts are the Rust's.
-use mathlib.Core.Path.{_≡_, sym, ap, _∙_}
+use Prim.Native.Nat.{ℕ, _-_}
+use borrow.Author.Needs.{needs}
+use borrow.Author.Tests.{not-true, not-false}
+use lib.Dec.{ltb}
 use mathlib.Core.Bool.{true}
 use mathlib.Core.List.{List}
-use Prim.Native.Nat.{ℕ, _-_}
+use mathlib.Core.Path.{_≡_, sym, ap, _∙_}
 use native.Mathlib.Omega.{arith}
-use lib.Dec.{ltb}
-use lib.ListN.{length}
-use borrow.Author.Tests.{not-true, not-false}
-use Rattle.types.specs.Reports.{says}
-use Rattle.committee.specs.declared.aggregator.StakeAggregator.{StakeAggregator}
-use Rattle.committee.specs.Committees.{soundOf}
 use Rattle.committee.specs.Aggregators.{castOf}
-use Rattle.threshold_clock.specs.Valid.{countOf, votersOf, argumentsOf, InRange}
+use Rattle.committee.specs.Committees.{soundOf}
+use Rattle.committee.specs.declared.aggregator.StakeAggregator.{StakeAggregator}
 use Rattle.threshold_clock.proofs.Validity.{in-range, voters-is, valid-unsound, valid-ragged, valid-out, valid-says, quorum-above, quorum-met}
-use borrow.Author.Needs.{needs}
+use Rattle.threshold_clock.specs.Valid.{countOf, votersOf, argumentsOf, InRange}
+use Rattle.types.specs.Reports.{says}
 use Rattle.threshold_clock.proofs.valid.threshold_clock_valid_non_genesis.Statement.{statement}
 use Rattle.threshold_clock.proofs.valid.threshold_clock_valid_non_genesis.Tie as tie
 

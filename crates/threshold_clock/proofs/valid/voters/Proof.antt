@@ -1,13 +1,13 @@
 -- The loop's invariant: the votes so far are those of the includes passed.
-use mathlib.Core.Path.{_≡_, sym, ap, _∙_}
-use mathlib.Core.Logic.{⊎-elim}
-use Prim.Native.Nat.{ℕ, _-_, _≤_}
-use native.Mathlib.Omega.{arith}
-use Rattle.committee.specs.declared.aggregator.StakeAggregator.{StakeAggregator}
-use Rattle.committee.specs.Aggregators.{castOf}
-use Rattle.threshold_clock.specs.Valid.{authorAt, roundAt, votersOf}
-use Rattle.threshold_clock.proofs.Validity.{voters-none, voters-yes, voters-no}
+use Prim.Native.Nat.{_-_, _≤_}
 use borrow.Author.Needs.{needs}
+use mathlib.Core.Logic.{⊎-elim}
+use mathlib.Core.Path.{_≡_, sym, ap, _∙_}
+use native.Mathlib.Omega.{arith}
+use Rattle.committee.specs.Aggregators.{castOf}
+use Rattle.committee.specs.declared.aggregator.StakeAggregator.{StakeAggregator}
+use Rattle.threshold_clock.proofs.Validity.{voters-none, voters-yes, voters-no}
+use Rattle.threshold_clock.specs.Valid.{votersOf}
 use Rattle.threshold_clock.proofs.valid.voters.Statement.{statement}
 use Rattle.threshold_clock.proofs.valid.voters.Tie as tie
 
