@@ -1,0 +1,130 @@
+// The election and the two decisions without the tests of the calls, for a committer that has tested its tables once. Each function is a
+// part: it tests nothing, stakes are lent words and the floor is the quorum's.
+use crate::BaseCommitterOptions;
+use crate::Decision;
+use crate::Elected;
+use crate::direct::only_supported;
+use crate::direct::skipped;
+use crate::indirect::Anchor;
+use crate::indirect::find_anchor;
+use crate::indirect::only_certified;
+use crate::only::commit_or;
+use crate::waves::anchor_round;
+use crate::waves::decision_round;
+use crate::waves::leader_round;
+use crate::waves::plus;
+use crate::waves::wave_number;
+use consensus::LeaderStatus;
+use types::AuthorRound;
+use types::AuthorityIndex;
+use types::RoundNumber;
+use types::Stake;
+use types::words::clear_bytes;
+ghost use mathlib.Core.Path.{_≡_};
+ghost use lib.ListN.{length, replicate};
+ghost use Rattle.block_store.specs.Store.{storeOf};
+ghost use Rattle.consensus.specs.Statuses.{statusesOf};
+ghost use Rattle.linked.specs.Linked.{linkedIn};
+ghost use Rattle.base_committer.specs.Waves.{reportedElected, electedReport};
+ghost use Rattle.base_committer.specs.Only.{reportedDecision};
+ghost use Rattle.base_committer.specs.Decide.{directReport, indirectReport};
+
+// The leader of a round in a committee of that size: nobody, where the round isn't its wave's first.
+pub fn elected(options: BaseCommitterOptions, size: u64, round: RoundNumber) -> Elected
+    ensures { λ r. ⌜ reportedElected r ≡ electedReport options size (round .0) ⌝ }
+{
+    let wave = wave_number(options, round);
+    let first = leader_round(options, wave);
+    if first.0 != round.0 {
+        return Elected::Nobody;
+    }
+    if size == 0 {
+        return Elected::Nobody;
+    }
+    let number = plus(round.0, options.leader_offset);
+    Elected::Leader(AuthorityIndex(number % size))
+}
+
+// The direct rule: skip by blame, commit by support.
+pub fn direct_decision(
+    blocks: &[u64],
+    includes: &[u64],
+    stored: usize,
+    stakes: &[u64],
+    floor: Stake,
+    options: BaseCommitterOptions,
+    leader: AuthorityIndex,
+    round: RoundNumber,
+) -> Decision
+    ensures { λ r. ⌜ reportedDecision r ≡ directReport (storeOf (now (blocks .entry)) (now (includes .entry)) stored) (now (stakes .entry)) (floor .0) options (leader .0) (round .0) ⌝ }
+{
+    let position = AuthorRound {
+        authority: leader,
+        round: round,
+    };
+    if skipped(
+        blocks,
+        includes,
+        stored,
+        stakes,
+        floor,
+        options,
+        leader,
+        round,
+    ) {
+        return Decision::Decided(LeaderStatus::Skip(position));
+    }
+    let decision = decision_round(options, wave_number(options, round));
+    let found = only_supported(
+        blocks,
+        includes,
+        stored,
+        stakes,
+        floor,
+        decision,
+        leader,
+        round,
+    );
+    commit_or(found, position, LeaderStatus::Undecided(position))
+}
+
+// The indirect rule, over the statuses of later leaders: commit what is certified in the past of the anchor, skip what isn't.
+pub fn indirect_decision(
+    blocks: &[u64],
+    includes: &[u64],
+    stored: usize,
+    stakes: &[u64],
+    floor: Stake,
+    options: BaseCommitterOptions,
+    leader: AuthorityIndex,
+    round: RoundNumber,
+    statuses: &[u64],
+    work: &mut [u8],
+) -> Decision
+    ensures { λ r. ⌜ reportedDecision r ≡ indirectReport (storeOf (now (blocks .entry)) (now (includes .entry)) stored) (linkedIn (storeOf (now (blocks .entry)) (now (includes .entry)) stored) (length (now (work .entry)))) (now (stakes .entry)) (floor .0) options (leader .0) (round .0) (statusesOf (now (statuses .entry))) ⌝ }
+    ensures zeroed { λ _. ⌜ now (work .exit) ≡ replicate (length (now (work .entry))) 0 ⌝ }
+{
+    clear_bytes(work);
+    let position = AuthorRound {
+        authority: leader,
+        round: round,
+    };
+    let found = find_anchor(statuses, anchor_round(options, round));
+    let Anchor::At(anchor) = found else {
+        return Decision::Decided(LeaderStatus::Undecided(position));
+    };
+    let decision = decision_round(options, wave_number(options, round));
+    let certified = only_certified(
+        blocks,
+        includes,
+        stored,
+        stakes,
+        floor,
+        decision,
+        anchor,
+        leader,
+        round,
+        work,
+    );
+    commit_or(certified, position, LeaderStatus::Skip(position))
+}

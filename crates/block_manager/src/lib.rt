@@ -1,0 +1,16 @@
+// The block manager: offers on lent tables: block_manager.rs. What is stored and what waits stands in the four lent
+// tables of both sides, and nothing else is remembered. No public function has a `requires`.
+use offers::Offered;
+
+mod cascade; // what a stored block lets in
+mod edit; // rows written and taken out
+pub mod offer; // add_block
+
+pub use offer::add_block;
+
+// What an offer answers, and the counts of used rows afterwards.
+pub struct OfferAnswer {
+    pub answer: Offered,
+    pub stored: usize,
+    pub pending: usize,
+}

@@ -1,0 +1,13 @@
+pub mod Words
+pub mod Edits
+pub mod Loops
+pub mod Holding
+pub mod Reading
+pub mod Moving
+pub mod Climbing
+pub mod Rows
+pub mod Testing
+pub mod From
+pub mod State
+pub mod Passes
+pub mod Soundness

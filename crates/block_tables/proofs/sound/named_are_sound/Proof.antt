@@ -1,0 +1,26 @@
+-- Each way out is a case of the test.
+use borrow.Author.Needs.{needs}
+use borrow.Author.Tests.{not-true, not-false}
+use mathlib.Core.Bool.{not}
+use mathlib.Core.Path.{sym, ap, _∙_, refl}
+use Rattle.block_tables.specs.Sound.{soundNamed}
+use Rattle.block_tables.proofs.sound.named_are_sound.Statement.{statement}
+use Rattle.block_tables.proofs.sound.named_are_sound.Tie as tie
+
+all-below-requires : tie.Need-all-below-requires
+all-below-requires c κs = search needs
+
+returns : tie.Need-returns
+unfolding soundNamed
+returns c = rw (sym (c .before .all-below .ensures) ∙ not-true _ (c .if1 .taken)) refl
+
+all-stored-requires : tie.Need-all-stored-requires
+all-stored-requires c κs = search needs
+
+returns-2 : tie.Need-returns-2
+unfolding soundNamed
+returns-2 c = rw (sym (c .before .before .all-below .ensures) ∙ not-false _ (c .before .if1 .left)) (ap not (c .all-stored .ensures))
+
+pub named-are-sound-spec : {M : Type 1} → statement M
+named-are-sound-spec =
+    tie.close (tie.spec all-below-requires returns all-stored-requires returns-2)

@@ -1,0 +1,165 @@
+// When a decision memory is sound, and when a list of statuses is: document 01, "Numbers and tables". Each function is a part that tests
+// one table against the stored blocks, which are taken as they are.
+use crate::parts::COMMIT;
+use crate::parts::SKIP;
+use crate::parts::STATUS_WORDS;
+use crate::parts::UNDECIDED;
+use block_store::parts::is_at;
+use block_store::sound::zero_from;
+use types::AuthorityIndex;
+use types::ROUND_LIMIT;
+use types::RoundNumber;
+use types::words::index;
+use types::words::word;
+ghost use mathlib.Core.Path.{_≡_};
+ghost use Prim.Native.Nat.{_<_};
+ghost use Rattle.types.specs.Below.{allBelow};
+ghost use Rattle.consensus.specs.Statuses.{statusWords};
+ghost use Rattle.consensus.specs.Sound.{statusField, blockFits, rowFits, samePosition, newPosition, soundStatuses, soundMemory};
+
+// Word k of a status row.
+fn field(rows: &[u64], i: usize, k: usize) -> u64
+    requires { ⌜ k < statusWords ⌝ }
+    ensures { λ r. ⌜ r ≡ statusField (now (rows .entry)) i k ⌝ }
+{
+    if i < rows.len() {
+        word(rows, i * STATUS_WORDS + k)
+    } else {
+        0
+    }
+}
+
+// Whether a commit names a stored block of its position, and any other kind none.
+fn block_fits(
+    blocks: &[u64],
+    stored: usize,
+    authority: u64,
+    round: u64,
+    kind: u64,
+    block: u64,
+) -> bool
+    ensures { λ r. ⌜ r ≡ blockFits (now (blocks .entry)) stored authority round kind block ⌝ }
+{
+    if kind == COMMIT {
+        let row = index(block);
+        if stored <= row {
+            return false;
+        }
+        return is_at(blocks, row, AuthorityIndex(authority), RoundNumber(round));
+    }
+    block == 0
+}
+
+// Whether a status row is within the limits, its kind at most `most`.
+fn row_fits(size: u64, blocks: &[u64], stored: usize, most: u64, rows: &[u64], i: usize) -> bool
+    ensures { λ r. ⌜ r ≡ rowFits size (now (blocks .entry)) stored most (now (rows .entry)) i ⌝ }
+{
+    let authority = field(rows, i, 0);
+    let round = field(rows, i, 1);
+    let kind = field(rows, i, 2);
+    let block = field(rows, i, 3);
+    if size <= authority {
+        return false;
+    }
+    if ROUND_LIMIT <= round {
+        return false;
+    }
+    if kind < 1 {
+        return false;
+    }
+    if most < kind {
+        return false;
+    }
+    block_fits(blocks, stored, authority, round, kind, block)
+}
+
+// Whether the first `count` status rows are within the limits.
+fn rows_fit(size: u64, blocks: &[u64], stored: usize, most: u64, rows: &[u64], count: usize) -> bool
+    ensures { λ r. ⌜ r ≡ allBelow (rowFits size (now (blocks .entry)) stored most (now (rows .entry))) count ⌝ }
+{
+    let mut k = 0;
+    while k < count {
+        let i = k;
+        k += 1;
+        if !row_fits(size, blocks, stored, most, rows, i) {
+            return false;
+        }
+    }
+    true
+}
+
+// Whether two status rows have one position.
+fn same_position(rows: &[u64], i: usize, j: usize) -> bool
+    ensures { λ r. ⌜ r ≡ samePosition (now (rows .entry)) i j ⌝ }
+{
+    if field(rows, j, 0) != field(rows, i, 0) {
+        return false;
+    }
+    field(rows, j, 1) == field(rows, i, 1)
+}
+
+// Whether no row before row i has its position.
+fn new_position(rows: &[u64], i: usize) -> bool
+    ensures { λ r. ⌜ r ≡ newPosition (now (rows .entry)) i ⌝ }
+{
+    let mut k = 0;
+    while k < i {
+        let j = k;
+        k += 1;
+        if same_position(rows, i, j) {
+            return false;
+        }
+    }
+    true
+}
+
+// Whether no position occurs twice in the first `count` rows.
+fn positions_differ(rows: &[u64], count: usize) -> bool
+    ensures { λ r. ⌜ r ≡ allBelow (newPosition (now (rows .entry))) count ⌝ }
+{
+    let mut k = 0;
+    while k < count {
+        let i = k;
+        k += 1;
+        if !new_position(rows, i) {
+            return false;
+        }
+    }
+    true
+}
+
+// Whether a list of statuses, which is its whole slice, is sound for a committee of that size.
+pub fn statuses_are_sound(size: u64, blocks: &[u64], stored: usize, statuses: &[u64]) -> bool
+    ensures { λ r. ⌜ r ≡ soundStatuses size (now (blocks .entry)) stored (now (statuses .entry)) ⌝ }
+{
+    if statuses.len() % STATUS_WORDS != 0 {
+        return false;
+    }
+    let count = statuses.len() / STATUS_WORDS;
+    rows_fit(size, blocks, stored, UNDECIDED, statuses, count)
+}
+
+// Whether a decision memory that has `count` rows in use is sound for a committee of that size.
+pub fn memory_is_sound(
+    size: u64,
+    blocks: &[u64],
+    stored: usize,
+    memory: &[u64],
+    count: usize,
+) -> bool
+    ensures { λ r. ⌜ r ≡ soundMemory size (now (blocks .entry)) stored (now (memory .entry)) count ⌝ }
+{
+    if memory.len() % STATUS_WORDS != 0 {
+        return false;
+    }
+    if memory.len() / STATUS_WORDS < count {
+        return false;
+    }
+    if !rows_fit(size, blocks, stored, SKIP, memory, count) {
+        return false;
+    }
+    if !positions_differ(memory, count) {
+        return false;
+    }
+    zero_from(memory, count * STATUS_WORDS)
+}

@@ -1,0 +1,12 @@
+pub mod Refs
+pub mod Counts
+pub mod Cascade
+pub mod Kept
+pub mod Runs
+pub mod Missing
+pub mod Theorem
+pub mod Order
+pub mod Climb
+pub mod Sound
+pub mod Reports
+pub mod Examples
