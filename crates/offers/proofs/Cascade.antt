@@ -1,6 +1,6 @@
--- The cascade: what it keeps, and that it leaves no waiting block which lacks nothing.
+-- The cascade: what it keeps, and that it leaves no waiting block which lacks nothing. Assumes nothing.
 --     settle-keeps   whatever each move of a block that lacks nothing keeps, the cascade keeps
---     settled        if each waiting block that lacks nothing includes one of the open references, none is left Assumes nothing.
+--     settled        if each waiting block that lacks nothing includes one of the open references, none is left
 use Prim.Native.Nat.{ℕ, zero, suc, _≤_, _<_}
 use borrow.Author.Tests.{lt-ltb, le-ltb}
 use lib.ListN.{length, getD, take, drop, length-append, length-take, length-drop}

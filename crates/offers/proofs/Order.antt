@@ -1,6 +1,6 @@
--- The cascade's three equations, which a loop's proof cites, and the depth-first recursion that it equals.
+-- The cascade's three equations, which a loop's proof cites, and the depth-first recursion that it equals. Assumes nothing.
 --     cascade-end, cascade-in, cascade-back
---     cascade-follow     cascade (r ∷ rs) st is cascade rs after all that follow r Assumes nothing.
+--     cascade-follow     cascade (r ∷ rs) st is cascade rs after all that follow r
 use Prim.Native.Nat.{ℕ, zero, suc, _≤_, _<_}
 use borrow.Author.Tests.{lt-ltb, le-ltb}
 use lib.ListN.{length}

@@ -65,7 +65,7 @@ module _ (s : Store) (author round : ℕ) where
   abbrev pub byIncludes : (ℕ → Support) → ℕ → Support
   byIncludes ask b = cond (leb (roundOf s b) round) Nothing (firstFound (askInclude s author round (roundOf s b) ask) (includesOf s b))
 
-  by-same : (f g : ℕ → Support) (b : ℕ) → ((i : ℕ) → roundOf s i < roundOf s b → f i ≡ g i) → byIncludes f b ≡ byIncludes g b
+  pub by-same : (f g : ℕ → Support) (b : ℕ) → ((i : ℕ) → roundOf s i < roundOf s b → f i ≡ g i) → byIncludes f b ≡ byIncludes g b
   by-same f g b h =
       ap (λ (k : ℕ → Support). cond (leb (roundOf s b) round) Nothing (firstFound k (includesOf s b)))
       (fun-ext (ask-same s author round (roundOf s b) f g h))
@@ -116,7 +116,7 @@ module _ (s : Store) (author round : ℕ) where
       let q = ltb-true (roundOf s i) (roundOf s row) (both-left _ _ t) in
       ap₂ orElse (ask-sound (roundOf s row) ask i q) (found-sound row ask is (both-right (ltb (roundOf s i) (roundOf s row)) _ t))
 
-  includes-same : (size row : ℕ) (ask : ℕ → Support) → SoundStore size s
+  pub includes-same : (size row : ℕ) (ask : ℕ → Support) → SoundStore size s
       → firstFound (askInclude s author round (roundOf s row) ask) (includesOf s row) ≡ firstFound (askAny s author round ask) (includesOf s row)
   includes-same size row ask sound =
       by-test (ltb row (s .count))
