@@ -1,0 +1,5 @@
+pub mod Options
+pub mod Seats
+pub mod Rules
+pub mod Calls
+pub mod Sequence

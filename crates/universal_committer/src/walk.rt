@@ -1,0 +1,217 @@
+// The leaders decided from the highest round down: universal_committer.rs, the loop of try_commit. The memory is only read here.
+use crate::UniversalCommitterOptions;
+use crate::options::committer;
+use crate::options::committer_count;
+use base_committer::BaseCommitterOptions;
+use base_committer::Decision;
+use base_committer::Elected;
+use base_committer::parts::direct_decision;
+use base_committer::parts::elected;
+use base_committer::parts::indirect_decision;
+use commit_walk::parts::Recalled;
+use commit_walk::parts::remembered;
+use consensus::parts::STATUS_WORDS;
+use consensus::parts::put_status;
+use types::AuthorRound;
+use types::RoundNumber;
+use types::Stake;
+ghost use mathlib.Core.Path.{_≡_};
+ghost use mathlib.Core.List.{[]};
+ghost use Prim.Native.Nat.{_+_, _*_, _^_, _≤_, _<_};
+ghost use lib.ListN.{length, replicate, drop};
+ghost use Rattle.block_store.specs.Store.{storeOf};
+ghost use Rattle.linked.specs.Linked.{linkedIn};
+ghost use Rattle.consensus.specs.Statuses.{statusWords, statusesOf};
+ghost use Rattle.commit_walk.specs.Walk.{examine};
+ghost use Rattle.universal_committer.specs.Options.{SoundOptions, committers};
+ghost use Rattle.universal_committer.specs.Seats.{seatsBelow, seatsOver};
+ghost use Rattle.universal_committer.specs.Rules.{isRuled, ruledOf, foundOf, rulesOf, walkOf, Left};
+
+// How far the walk came: its statuses begin at that word of the area, or two blocks of a leader are certified.
+pub enum Walked {
+    From(usize),
+    Two,
+}
+
+// Whether the direct rule leaves nothing to the indirect one.
+fn is_ruled(d: Decision) -> bool
+    ensures { λ r. ⌜ r ≡ isRuled d ⌝ }
+{
+    match d {
+        Decision::Decided(x) => x.is_decided(),
+        Decision::Refused(_) => true,
+    }
+}
+
+// What the two rules say of a leader: the indirect one is asked what the direct one leaves undecided.
+fn ruled(
+    blocks: &[u64],
+    includes: &[u64],
+    stored: usize,
+    stakes: &[u64],
+    floor: Stake,
+    base: BaseCommitterOptions,
+    place: AuthorRound,
+    later: &[u64],
+    work: &mut [u8],
+) -> Decision
+    requires { ⌜ now work ≡ replicate (length (now work)) 0 ⌝ }
+    ensures { λ r. ⌜ r ≡ ruledOf (storeOf (now (blocks .entry)) (now (includes .entry)) stored) (linkedIn (storeOf (now (blocks .entry)) (now (includes .entry)) stored) (length (now (work .entry)))) (now (stakes .entry)) (floor .0) base (place .authority .0) (place .round .0) (statusesOf (now (later .entry))) ⌝ }
+    ensures zeroed { λ _. ⌜ now (work .exit) ≡ replicate (length (now (work .entry))) 0 ⌝ }
+{
+    let leader = place.authority;
+    let round = place.round;
+    let direct = direct_decision(blocks, includes, stored, stakes, floor, base, leader, round);
+    if is_ruled(direct) {
+        return direct;
+    }
+    indirect_decision(
+        blocks,
+        includes,
+        stored,
+        stakes,
+        floor,
+        base,
+        leader,
+        round,
+        later,
+        work,
+    )
+}
+
+// What is decided of a leader, `later` being the statuses of those after it. A remembered decision is used unchanged.
+fn decision_at(
+    blocks: &[u64],
+    includes: &[u64],
+    stored: usize,
+    stakes: &[u64],
+    floor: Stake,
+    memory: &[u64],
+    base: BaseCommitterOptions,
+    place: AuthorRound,
+    later: &[u64],
+    work: &mut [u8],
+) -> Decision
+    requires { ⌜ now work ≡ replicate (length (now work)) 0 ⌝ }
+    ensures { λ r. ⌜ r ≡ foundOf (storeOf (now (blocks .entry)) (now (includes .entry)) stored) (linkedIn (storeOf (now (blocks .entry)) (now (includes .entry)) stored) (length (now (work .entry)))) (now (stakes .entry)) (floor .0) (statusesOf (now (memory .entry))) base (place .authority .0) (place .round .0) (statusesOf (now (later .entry))) ⌝ }
+    ensures zeroed { λ _. ⌜ now (work .exit) ≡ replicate (length (now (work .entry))) 0 ⌝ }
+{
+    let found = remembered(memory, place);
+    if let Recalled::Known(x) = found {
+        return Decision::Decided(x);
+    }
+    ruled(
+        blocks,
+        includes,
+        stored,
+        stakes,
+        floor,
+        base,
+        place,
+        later,
+        work,
+    )
+}
+
+// Decides the leaders of a round, the last first, and puts each status in front of those that stand in the area from `from` on.
+fn examine_round(
+    blocks: &[u64],
+    includes: &[u64],
+    stored: usize,
+    stakes: &[u64],
+    floor: Stake,
+    options: UniversalCommitterOptions,
+    size: u64,
+    memory: &[u64],
+    round: RoundNumber,
+    area: &mut [u64],
+    from: usize,
+    work: &mut [u8],
+) -> Walked
+    requires { ⌜ SoundOptions options 128 ⌝ }
+    requires { ⌜ (from ≤ length (now area)) × (length (seatsBelow options size (round .0) (committers options)) * statusWords ≤ from) ⌝ }
+    requires { ⌜ now work ≡ replicate (length (now work)) 0 ⌝ }
+    ensures { λ r. ⌜ walkOf r (now (area .exit)) ≡ examine (rulesOf (storeOf (now (blocks .entry)) (now (includes .entry)) stored) (linkedIn (storeOf (now (blocks .entry)) (now (includes .entry)) stored) (length (now (work .entry)))) (now (stakes .entry)) (floor .0) options) (statusesOf (now (memory .entry))) (seatsBelow options size (round .0) (committers options)) (statusesOf (drop from (now (area .entry)))) ⌝ }
+    ensures used { λ r. ⌜ Left r from (length (seatsBelow options size (round .0) (committers options))) ⌝ }
+    ensures zeroed { λ _. ⌜ now (work .exit) ≡ replicate (length (now (work .entry))) 0 ⌝ }
+{
+    let mut first = from;
+    let mut j = committer_count(options);
+    while 0 < j {
+        j -= 1;
+        let base = committer(options, j);
+        let Elected::Leader(leader) = elected(base, size, round) else {
+            continue;
+        };
+        let place = AuthorRound {
+            authority: leader,
+            round: round,
+        };
+        let found = decision_at(
+            blocks,
+            includes,
+            stored,
+            stakes,
+            floor,
+            memory,
+            base,
+            place,
+            &area[first..],
+            work,
+        );
+        let Decision::Decided(x) = found else {
+            return Walked::Two;
+        };
+        first -= STATUS_WORDS;
+        put_status(area, first, x);
+    }
+    Walked::From(first)
+}
+
+// Decides the leaders of `rounds` rounds from `low` up, the highest first, writing a status for each from the end of the area.
+pub(crate) fn examine_rounds(
+    blocks: &[u64],
+    includes: &[u64],
+    stored: usize,
+    stakes: &[u64],
+    floor: Stake,
+    options: UniversalCommitterOptions,
+    size: u64,
+    memory: &[u64],
+    low: RoundNumber,
+    rounds: u64,
+    area: &mut [u64],
+    work: &mut [u8],
+) -> Walked
+    requires { ⌜ SoundOptions options 128 ⌝ }
+    requires { ⌜ (low .0 + rounds ≤ 2 ^ 42) × (length (seatsOver options size (low .0) rounds) * statusWords ≤ length (now area)) ⌝ }
+    requires { ⌜ now work ≡ replicate (length (now work)) 0 ⌝ }
+    ensures { λ r. ⌜ walkOf r (now (area .exit)) ≡ examine (rulesOf (storeOf (now (blocks .entry)) (now (includes .entry)) stored) (linkedIn (storeOf (now (blocks .entry)) (now (includes .entry)) stored) (length (now (work .entry)))) (now (stakes .entry)) (floor .0) options) (statusesOf (now (memory .entry))) (seatsOver options size (low .0) rounds) [] ⌝ }
+    ensures used { λ r. ⌜ Left r (length (now (area .entry))) (length (seatsOver options size (low .0) rounds)) ⌝ }
+    ensures zeroed { λ _. ⌜ now (work .exit) ≡ replicate (length (now (work .entry))) 0 ⌝ }
+{
+    let mut first = area.len();
+    let mut n = rounds;
+    while 0 < n {
+        n -= 1;
+        let found = examine_round(
+            blocks,
+            includes,
+            stored,
+            stakes,
+            floor,
+            options,
+            size,
+            memory,
+            RoundNumber(low.0 + n),
+            area,
+            first,
+            work,
+        );
+        match found {
+            Walked::From(next) => first = next,
+            Walked::Two => return Walked::Two,
+        }
+    }
+    Walked::From(first)
+}
