@@ -1,0 +1,54 @@
+-- Three texts, one after another, the number being the refusal's.
+use borrow.Author.Needs.{needs}
+use mathlib.Core.List.{_++_}
+use Rattle.answer_lines.proofs.Laws.{left-all, left-less, left-last}
+use Rattle.answer_lines.specs.Texts.{newline, refusedWord, refusedText}
+use Rattle.lines.specs.Lines.{decimalOf}
+use Rattle.answer_lines.proofs.put_refused.Statement.{statement}
+use Rattle.answer_lines.proofs.put_refused.Tie as tie
+
+number-requires : tie.Need-number-requires
+number-requires c κs = search needs
+
+slice-aggregate-put : tie.Need-slice-aggregate-put
+slice-aggregate-put c = search needs
+
+put-requires : tie.Need-put-requires
+put-requires c κs = search needs
+
+put-number-requires : tie.Need-put-number-requires
+put-number-requires c κs = search needs
+
+slice-aggregate-put-2 : tie.Need-slice-aggregate-put-2
+slice-aggregate-put-2 c = search needs
+
+put-requires-2 : tie.Need-put-requires-2
+put-requires-2 c κs = search needs
+
+same-length : tie.Need-same-length
+same-length c = search needs
+
+returns : tie.Need-returns
+unfolding refusedText
+returns c =
+    let a = c .before .before .before .before .before .before .before .before .before .before .before .before .before .before .before .before .args in
+    let n = c .before .before .before .before .before .before .before .before .before .before .before .before .before .before .number .result in
+    let p0 = left-all (a .out .now) (a .at) (refusedWord ++ (decimalOf n ++ newline)) in
+    let p1 = left-less refusedWord (decimalOf n ++ newline) _ _ p0 (c .before .before .before .before .before .before .before .before .before .before .before .put .ensures .0) (c .before .before .before .before .before .before .before .before .before .before .before .put .ensures .1) in
+    let p2 = left-less (decimalOf n) newline _ _ p1 (c .before .before .before .before .before .before .before .put-number .ensures .0) (c .before .before .before .before .before .before .before .put-number .ensures .1) in
+    let p3 = left-last newline _ _ p2 (c .before .before .put2 .ensures .0) (c .before .before .put2 .ensures .1) in
+    let e = c .before .before .before .before .before .before .before .before .before .before .before .before .before .before .number .ensures in
+    (rw e at (p3 .ends), rw e at (p3 .holds))
+
+pub put-refused-spec : {M : Type 1} → statement M
+put-refused-spec =
+    tie.close
+    (tie.spec
+    number-requires
+    slice-aggregate-put
+    put-requires
+    put-number-requires
+    slice-aggregate-put-2
+    put-requires-2
+    same-length
+    returns)
