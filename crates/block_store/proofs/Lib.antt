@@ -1,3 +1,4 @@
 pub mod Store
 pub mod Tests
+pub mod Twins
 pub mod Soundness

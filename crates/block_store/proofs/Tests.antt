@@ -1,23 +1,21 @@
 -- Laws for the functions that test the tables: one for each way round a loop and out of it. Assumes nothing.
-use Prim.Native.Nat.{ℕ, zero, suc, _+_, _-_, _*_, _/_, _%_, _≤_, _<_}
+use Prim.Native.Nat.{ℕ, zero, suc, _+_, _-_, _/_, _%_, _≤_, _<_}
 use borrow.Author.Tests.{lt-ltb, le-ltb, le-leb, eq-eqb, ne-eqb, eqb-true, leb-true, ltb-true}
 use lib.Dec.{eqb, ltb, leb}
 use lib.ListN.{length, getD, drop, drop-of-length-le}
 use lib.Seq.{drop-cons, getD-drop}
-use mathlib.Core.Bool.{Bool, true, false, not}
+use mathlib.Core.Bool.{true, false}
 use mathlib.Core.List.{List, [], _∷_, List·Memᴰ, List·Memᴰ·cases-cons, List·Memᴰ·not-nil}
 use mathlib.Core.Logic.{⊎-elim}
 use mathlib.Core.Path.{_≡_, refl, sym, ap, _∙_}
 use native.Mathlib.Numerals.{add-one}
 use native.Mathlib.Omega.{arith}
-use Rattle.block_store.specs.Sound.{startOf, soundSizes, allLower, soundRow, soundRows, differ, zeros}
+use Rattle.block_store.specs.Sound.{startOf, soundSizes, allLower, soundRow, soundRows, zeros}
 use Rattle.block_store.specs.Store.{Store, fieldOf, authorityOf, roundOf, firstOf, countOf, includesOf}
 use Rattle.types.proofs.Below.{all-at, all-more}
 use Rattle.types.proofs.Tests.{both, both-left, both-right, fails, clash}
 use Rattle.types.specs.Below.{allBelow}
 use Rattle.types.specs.Limits.{blockWords, maxBlocks, maxAllIncludes, maxIncludes, roundLimit}
-use Rattle.types.specs.References.{same, refAt}
-use Rattle.types.specs.declared.reference.BlockReference.{BlockReference}
 
 -- ---- zeros
 
@@ -189,13 +187,3 @@ unfolding soundRows
 rows-end size s start i inv h =
     let e : i ≡ s .count = omega (arith, inv .0) in
     rw (sym (ap (allBelow (soundRow size s)) e) ∙ inv .3) (ap (λ (n : ℕ). zeros (drop n (s .includes))) (inv .1 ∙ ap (startOf s) e))
-
--- ---- distinct references
-
-pub differ-yes : (blocks : List ℕ) (a b : ℕ) (x y : BlockReference) (t : Bool) → x ≡ refAt blocks (b * blockWords) → y ≡ refAt blocks (a * blockWords) → t ≡ same x y → t ≡ false → differ blocks a b ≡ true
-unfolding differ
-differ-yes blocks a b x y t ex ey et e = ap not (sym (et ∙ (λ i. same (ex i) (ey i))) ∙ e)
-
-pub differ-no : (blocks : List ℕ) (a b : ℕ) (x y : BlockReference) (t : Bool) → x ≡ refAt blocks (b * blockWords) → y ≡ refAt blocks (a * blockWords) → t ≡ same x y → t ≡ true → differ blocks a b ≡ false
-unfolding differ
-differ-no blocks a b x y t ex ey et e = ap not (sym (et ∙ (λ i. same (ex i) (ey i))) ∙ e)

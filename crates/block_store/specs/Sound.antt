@@ -88,6 +88,11 @@ zeros (x ∷ xs) = eqb x 0 && zeros xs
 unfoldable pub soundRows : ℕ → Store → Bool
 soundRows size s = allBelow (soundRow size s) (s .count) && zeros (drop (usedIncludes s) (s .includes))
 
+-- all of it but that no two rows share a reference
+unfoldable pub soundButTwins : ℕ → Store → Bool
+soundButTwins size s =
+    soundSizes (length (s .blocks)) (length (s .includes)) (s .count) && (soundRows size s && zeros (drop (s .count * blockWords) (s .blocks)))
+
 unfoldable pub soundStore : ℕ → Store → Bool
 soundStore size s =
     soundSizes (length (s .blocks)) (length (s .includes)) (s .count)

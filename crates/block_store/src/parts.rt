@@ -1,4 +1,5 @@
 // Rows and includes, read. Each function is a part: it tests nothing, and past the end of a table every word is 0.
+pub use index::build::BLOCK_WORDS;
 use types::AuthorityIndex;
 use types::BlockReference;
 use types::RoundNumber;
@@ -10,9 +11,6 @@ ghost use Prim.Native.Nat.{_<_, _*_};
 ghost use Rattle.types.specs.Limits.{blockWords};
 ghost use Rattle.types.specs.References.{refAt};
 ghost use Rattle.block_store.specs.Store.{storeOf, fieldOf, includesOf, isAt};
-
-// The words of a block's row: authority, round, digest, first include, include count.
-pub const BLOCK_WORDS: usize = 8;
 
 // Word k of a row.
 fn field(blocks: &[u64], row: usize, k: usize) -> u64

@@ -7,6 +7,7 @@ use crate::parts::count_at;
 use crate::parts::first_at;
 use crate::parts::includes_of;
 use crate::parts::round_at;
+pub use index::build::MAX_BLOCKS;
 use types::MAX_INCLUDES;
 use types::ROUND_LIMIT;
 use types::words::index;
@@ -15,10 +16,7 @@ ghost use mathlib.Core.Path.{_≡_};
 ghost use Prim.Native.Nat.{_≤_};
 ghost use lib.ListN.{length, drop};
 ghost use Rattle.block_store.specs.Store.{storeOf};
-ghost use Rattle.block_store.specs.Sound.{startOf, soundSizes, allLower, soundRow, soundRows, soundStore, zeros};
-
-// The most rows of a table.
-pub const MAX_BLOCKS: usize = 65536;
+ghost use Rattle.block_store.specs.Sound.{startOf, soundSizes, allLower, soundRow, soundRows, soundButTwins, soundStore, zeros};
 
 // The most includes of a table.
 pub const MAX_ALL_INCLUDES: usize = 1048576;
@@ -124,9 +122,9 @@ fn rows_are_sound(size: u64, blocks: &[u64], includes: &[u64], stored: usize) ->
     zero_from(includes, start)
 }
 
-// Whether the stored tables are sound, with authorities below `size`.
-pub fn store_is_sound(size: u64, blocks: &[u64], includes: &[u64], stored: usize) -> bool
-    ensures { λ r. ⌜ r ≡ soundStore size (storeOf (now (blocks .entry)) (now (includes .entry)) stored) ⌝ }
+// Whether the stored tables are sound, with authorities below `size`, but for rows that share a reference.
+pub fn store_is_sound_but_twins(size: u64, blocks: &[u64], includes: &[u64], stored: usize) -> bool
+    ensures { λ r. ⌜ r ≡ soundButTwins size (storeOf (now (blocks .entry)) (now (includes .entry)) stored) ⌝ }
 {
     if !sizes_are_sound(blocks.len(), includes.len(), stored) {
         return false;
@@ -134,7 +132,14 @@ pub fn store_is_sound(size: u64, blocks: &[u64], includes: &[u64], stored: usize
     if !rows_are_sound(size, blocks, includes, stored) {
         return false;
     }
-    if !zero_from(blocks, stored * BLOCK_WORDS) {
+    zero_from(blocks, stored * BLOCK_WORDS)
+}
+
+// Whether the stored tables are sound, with authorities below `size`.
+pub fn store_is_sound(size: u64, blocks: &[u64], includes: &[u64], stored: usize) -> bool
+    ensures { λ r. ⌜ r ≡ soundStore size (storeOf (now (blocks .entry)) (now (includes .entry)) stored) ⌝ }
+{
+    if !store_is_sound_but_twins(size, blocks, includes, stored) {
         return false;
     }
     are_distinct(blocks, stored)

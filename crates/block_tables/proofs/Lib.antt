@@ -1,6 +1,7 @@
 pub mod Words
 pub mod Edits
 pub mod Loops
+pub mod Lookups
 pub mod Holding
 pub mod Reading
 pub mod Moving

@@ -10,12 +10,14 @@ use mathlib.Core.Path.{_≡_, refl, sym, ap, _∙_}
 use native.Mathlib.Numerals.{add-one}
 use native.Mathlib.Omega.{arith}
 use Rattle.block_store.proofs.Soundness.{sound}
-use Rattle.block_store.specs.Sound.{soundStore, startOf, usedIncludes, zeros}
+use Rattle.block_store.proofs.Twins.{distinct-keys, sound-split}
+use Rattle.block_store.specs.Sound.{soundButTwins, soundStore, startOf, usedIncludes, zeros}
 use Rattle.block_store.specs.Store.{Store, fieldOf, authorityOf, roundOf, referenceOf, firstOf, countOf}
 use Rattle.block_tables.proofs.Loops.{refs-next, refs-end, among-at, length-refRows}
 use Rattle.block_tables.specs.Reading.{allAmong}
-use Rattle.block_tables.specs.Sound.{storedOf, pendingOf, soundSizes, namedWords, soundNamed, soundRow, soundRows, usedIn}
+use Rattle.block_tables.specs.Sound.{storedOf, pendingOf, soundSizes, namedWords, soundNamed, soundRow, soundRows, soundTables, usedIn}
 use Rattle.block_tables.specs.Words.{Tables, refRows, stretch}
+use Rattle.index.specs.Keys.{referenceKey, distinctKeys}
 use Rattle.offers.specs.Blocks.{among}
 use Rattle.offers.specs.Exact.{firstAt}
 use Rattle.offers.specs.Offers.{below}
@@ -233,3 +235,20 @@ module _ (blocks : List ℕ) (n : ℕ) (x y : BlockReference) (row : ℕ) (ex : 
 
   pub not-found-among : n ≤ row → among (refRows blocks 0 n) y ≡ false
   not-found-among h = ap (among (refRows blocks 0 n)) (sym ex) ∙ among-at (refRows blocks 0 n) x ∙ le-ltb (firstAt (refRows blocks 0 n) x) (length (refRows blocks 0 n)) (omega (arith, er, length-refRows blocks 0 n))
+
+-- ---- the stored side
+
+module _ (size : ℕ) (t : Tables) where
+  pub store-stops : soundStore size (storedOf t) ≡ false → false ≡ soundTables size t
+  unfolding soundTables
+  store-stops e = rw e refl
+
+  pub but-twins-stops : soundButTwins size (storedOf t) ≡ false → false ≡ soundTables size t
+  but-twins-stops e = store-stops (sound-split size (storedOf t) ∙ rw e refl)
+
+  pub store-says : soundButTwins size (storedOf t) ≡ true → (d : Bool) → d ≡ distinctKeys (referenceKey (t .blocks)) (t .stored) → soundStore size (storedOf t) ≡ d
+  store-says e d ed = sound-split size (storedOf t) ∙ rw e (sym (ed ∙ distinct-keys (t .blocks) (t .stored)))
+
+  -- more rows than a table has
+  pub rows-stop : maxBlocks < t .stored → false ≡ soundTables size t
+  rows-stop h = store-stops (fails (soundStore size (storedOf t)) (λ e. let s = sound size (storedOf t) e in omega (arith, s .rows-used, s .few-rows)))

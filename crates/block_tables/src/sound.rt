@@ -1,10 +1,11 @@
-// The test of both sides' tables: document 01, "Numbers and tables". The stored side's own test, one pass over the pending rows and their
-// includes, one over the unused words, and the search for two pending rows of one reference.
+// The test of both sides' tables: document 01, "Numbers and tables". The stored side's own test, which leaves the stored rows in order of
+// their references; one pass over the pending rows and their includes, looked up among those; one over the unused words; and whether two
+// pending rows share a reference.
 use crate::Counts;
-use crate::parts::all_stored;
+use crate::indexed::all_in;
+use crate::indexed::row_in;
 use crate::parts::named_by;
 use crate::parts::reference_in;
-use crate::parts::row_of;
 use block_store::distinct::are_distinct;
 use block_store::parts::BLOCK_WORDS;
 use block_store::parts::authority_at;
@@ -13,16 +14,24 @@ use block_store::parts::first_at;
 use block_store::parts::reference_of;
 use block_store::parts::round_at;
 use block_store::sound::MAX_ALL_INCLUDES;
-use block_store::sound::store_is_sound;
+use block_store::sound::MAX_BLOCKS;
+use block_store::sound::store_is_sound_but_twins;
 use block_store::sound::zero_from;
+use index::build::index_references;
 use types::MAX_INCLUDES;
 use types::ROUND_LIMIT;
 use types::RoundNumber;
 use types::reference::REFERENCE_WORDS;
 ghost use mathlib.Core.Path.{_≡_};
+ghost use mathlib.Core.Bool.{true};
+ghost use Prim.Native.Nat.{_≤_};
+ghost use lib.ListN.{length};
+ghost use Rattle.types.specs.Limits.{maxBlocks};
+ghost use Rattle.index.specs.Keys.{referenceKey};
+ghost use Rattle.index.specs.Search.{Indexed};
 ghost use Rattle.types.specs.References.{refsIn};
 ghost use Rattle.block_store.specs.Store.{storeOf};
-ghost use Rattle.block_store.specs.Sound.{startOf};
+ghost use Rattle.block_store.specs.Sound.{startOf, soundStore};
 ghost use Rattle.offers.specs.Offers.{below};
 ghost use Rattle.block_tables.specs.Words.{tablesOf, refRows};
 ghost use Rattle.block_tables.specs.Sound.{soundSizes, soundNamed, soundRow, soundRows, soundTables, usedIn, countsIn};
@@ -50,22 +59,25 @@ pub fn all_below(size: u64, round: RoundNumber, list: &[u64]) -> bool
 fn named_are_sound(
     size: u64,
     blocks: &[u64],
+    order: &[u16],
     stored: usize,
     round: RoundNumber,
     list: &[u64],
 ) -> bool
+    requires { ⌜ Indexed (referenceKey (now blocks)) stored (now order) ⌝ }
     ensures { λ r. ⌜ r ≡ soundNamed size (refRows (now (blocks .entry)) 0 stored) (round .0) (now (list .entry)) ⌝ }
 {
     if !all_below(size, round, list) {
         return false;
     }
-    !all_stored(blocks, stored, list)
+    !all_in(blocks, order, stored, list)
 }
 
 // Whether the numbers of a pending row are within limits, its stretch begins at `start`, its reference is new, and its includes are sound.
 fn row_is_sound(
     size: u64,
     blocks: &[u64],
+    order: &[u16],
     stored: usize,
     waiting: &[u64],
     named: &[u64],
@@ -73,6 +85,7 @@ fn row_is_sound(
     row: usize,
     start: usize,
 ) -> bool
+    requires { ⌜ Indexed (referenceKey (now blocks)) stored (now order) ⌝ }
     requires { ⌜ start ≡ startOf (storeOf (now waiting) (now named) pending) row ⌝ }
     ensures { λ r. ⌜ r ≡ soundRow size (refRows (now (blocks .entry)) 0 stored) (storeOf (now (waiting .entry)) (now (named .entry)) pending) row ⌝ }
 {
@@ -89,21 +102,30 @@ fn row_is_sound(
     if first_at(waiting, row) != start {
         return false;
     }
-    if row_of(blocks, stored, reference_of(waiting, row)) < stored {
+    if row_in(blocks, order, stored, reference_of(waiting, row)) < stored {
         return false;
     }
-    named_are_sound(size, blocks, stored, round, named_by(waiting, named, row))
+    named_are_sound(
+        size,
+        blocks,
+        order,
+        stored,
+        round,
+        named_by(waiting, named, row),
+    )
 }
 
 // Whether each pending row is sound, and no include stands after theirs.
 fn rows_are_sound(
     size: u64,
     blocks: &[u64],
+    order: &[u16],
     stored: usize,
     waiting: &[u64],
     named: &[u64],
     pending: usize,
 ) -> bool
+    requires { ⌜ Indexed (referenceKey (now blocks)) stored (now order) ⌝ }
     ensures { λ r. ⌜ r ≡ soundRows size (refRows (now (blocks .entry)) 0 stored) (storeOf (now (waiting .entry)) (now (named .entry)) pending) ⌝ }
 {
     let mut start = 0;
@@ -111,7 +133,17 @@ fn rows_are_sound(
     while i < pending {
         let row = i;
         i += 1;
-        if !row_is_sound(size, blocks, stored, waiting, named, pending, row, start) {
+        if !row_is_sound(
+            size,
+            blocks,
+            order,
+            stored,
+            waiting,
+            named,
+            pending,
+            row,
+            start,
+        ) {
             return false;
         }
         start += count_at(waiting, row);
@@ -178,6 +210,160 @@ pub fn counts_in(blocks: &[u64], stored: usize, waiting: &[u64], pending: usize)
     }
 }
 
+// Whether the tables of both sides are sound, where those of the stored side are and `order` has the stored rows in order.
+fn pending_is_sound(
+    size: u64,
+    blocks: &[u64],
+    includes: &[u64],
+    order: &[u16],
+    stored: usize,
+    waiting: &[u64],
+    named: &[u64],
+    pending: usize,
+) -> bool
+    requires { ⌜ soundStore size (storeOf (now blocks) (now includes) stored) ≡ true ⌝ }
+    requires { ⌜ Indexed (referenceKey (now blocks)) stored (now order) ⌝ }
+    ensures { λ r. ⌜ r ≡ soundTables size (tablesOf (now (blocks .entry)) (now (includes .entry)) stored (now (waiting .entry)) (now (named .entry)) pending) ⌝ }
+{
+    if !sizes_are_sound(
+        blocks.len(),
+        includes.len(),
+        waiting.len(),
+        named.len(),
+        stored,
+        pending,
+    ) {
+        return false;
+    }
+    if !rows_are_sound(size, blocks, order, stored, waiting, named, pending) {
+        return false;
+    }
+    if includes.len() < used_includes(blocks, stored) + used_includes(waiting, pending) {
+        return false;
+    }
+    if !zero_from(waiting, pending * BLOCK_WORDS) {
+        return false;
+    }
+    are_distinct(waiting, pending)
+}
+
+// Whether the tables of both sides are sound, by way of two areas that have room for the stored rows.
+fn tables_by_index(
+    size: u64,
+    blocks: &[u64],
+    includes: &[u64],
+    stored: usize,
+    waiting: &[u64],
+    named: &[u64],
+    pending: usize,
+    order: &mut [u16],
+    work: &mut [u16],
+) -> bool
+    requires { ⌜ (stored ≤ maxBlocks) × (stored ≤ length (now order)) × (stored ≤ length (now work)) ⌝ }
+    ensures { λ r. ⌜ r ≡ soundTables size (tablesOf (now (blocks .entry)) (now (includes .entry)) stored (now (waiting .entry)) (now (named .entry)) pending) ⌝ }
+{
+    if !store_is_sound_but_twins(size, blocks, includes, stored) {
+        return false;
+    }
+    if !index_references(blocks, stored, order, work) {
+        return false;
+    }
+    pending_is_sound(
+        size,
+        blocks,
+        includes,
+        order,
+        stored,
+        waiting,
+        named,
+        pending,
+    )
+}
+
+// The same for at most 256 stored rows.
+fn tables_256(
+    size: u64,
+    blocks: &[u64],
+    includes: &[u64],
+    stored: usize,
+    waiting: &[u64],
+    named: &[u64],
+    pending: usize,
+) -> bool
+    requires { ⌜ stored ≤ 256 ⌝ }
+    ensures { λ r. ⌜ r ≡ soundTables size (tablesOf (now (blocks .entry)) (now (includes .entry)) stored (now (waiting .entry)) (now (named .entry)) pending) ⌝ }
+{
+    let mut order = [0u16; 256];
+    let mut work = [0u16; 256];
+    tables_by_index(
+        size,
+        blocks,
+        includes,
+        stored,
+        waiting,
+        named,
+        pending,
+        &mut order,
+        &mut work,
+    )
+}
+
+// The same for at most 4,096 stored rows.
+fn tables_4096(
+    size: u64,
+    blocks: &[u64],
+    includes: &[u64],
+    stored: usize,
+    waiting: &[u64],
+    named: &[u64],
+    pending: usize,
+) -> bool
+    requires { ⌜ stored ≤ 4096 ⌝ }
+    ensures { λ r. ⌜ r ≡ soundTables size (tablesOf (now (blocks .entry)) (now (includes .entry)) stored (now (waiting .entry)) (now (named .entry)) pending) ⌝ }
+{
+    let mut order = [0u16; 4096];
+    let mut work = [0u16; 4096];
+    tables_by_index(
+        size,
+        blocks,
+        includes,
+        stored,
+        waiting,
+        named,
+        pending,
+        &mut order,
+        &mut work,
+    )
+}
+
+// The same for as many stored rows as a table has.
+fn tables_65536(
+    size: u64,
+    blocks: &[u64],
+    includes: &[u64],
+    stored: usize,
+    waiting: &[u64],
+    named: &[u64],
+    pending: usize,
+) -> bool
+    requires { ⌜ stored ≤ maxBlocks ⌝ }
+    ensures { λ r. ⌜ r ≡ soundTables size (tablesOf (now (blocks .entry)) (now (includes .entry)) stored (now (waiting .entry)) (now (named .entry)) pending) ⌝ }
+{
+    let mut order = [0u16; MAX_BLOCKS];
+    let mut work = [0u16; MAX_BLOCKS];
+    tables_by_index(
+        size,
+        blocks,
+        includes,
+        stored,
+        waiting,
+        named,
+        pending,
+        &mut order,
+        &mut work,
+    )
+}
+
 // Whether the tables of both sides are sound, with authorities below `size`.
 pub fn tables_are_sound(
     size: u64,
@@ -190,27 +376,14 @@ pub fn tables_are_sound(
 ) -> bool
     ensures { λ r. ⌜ r ≡ soundTables size (tablesOf (now (blocks .entry)) (now (includes .entry)) stored (now (waiting .entry)) (now (named .entry)) pending) ⌝ }
 {
-    if !store_is_sound(size, blocks, includes, stored) {
-        return false;
+    if stored <= 256 {
+        return tables_256(size, blocks, includes, stored, waiting, named, pending);
     }
-    if !sizes_are_sound(
-        blocks.len(),
-        includes.len(),
-        waiting.len(),
-        named.len(),
-        stored,
-        pending,
-    ) {
-        return false;
+    if stored <= 4096 {
+        return tables_4096(size, blocks, includes, stored, waiting, named, pending);
     }
-    if !rows_are_sound(size, blocks, stored, waiting, named, pending) {
-        return false;
+    if stored <= MAX_BLOCKS {
+        return tables_65536(size, blocks, includes, stored, waiting, named, pending);
     }
-    if includes.len() < used_includes(blocks, stored) + used_includes(waiting, pending) {
-        return false;
-    }
-    if !zero_from(waiting, pending * BLOCK_WORDS) {
-        return false;
-    }
-    are_distinct(waiting, pending)
+    false
 }

@@ -58,20 +58,8 @@ module _ (size : ℕ) (bs : List ℕ) (st most : ℕ) (rows : List ℕ) (i a r k
     pub row-block : 1 ≤ k → k ≤ most → (t : Bool) → t ≡ blockFits bs st a r k b → t ≡ rowFits size bs st most rows i
     row-block l h t e = rw (← row-is, lt-ltb a size la, lt-ltb r roundLimit lr, le-leb 1 k l, le-leb k most h) e
 
-pub same-no : (rows : List ℕ) (i j x y : ℕ) → x ≡ statusField rows j 0 → y ≡ statusField rows i 0 → (x ≡ y → ⊥) → false ≡ samePosition rows i j
-unfolding samePosition
-same-no rows i j x y ex ey n = rw (← ex, ← ey, ne-eqb x y n) refl
-
-pub same-round : (rows : List ℕ) (i j x y z w : ℕ) → x ≡ statusField rows j 0 → y ≡ statusField rows i 0 → x ≡ y
-    → z ≡ statusField rows j 1 → w ≡ statusField rows i 1 → eqb z w ≡ samePosition rows i j
-unfolding samePosition
-same-round rows i j x y z w ex ey e ez ew = rw (← ex, ← ey, ← ez, ← ew, eq-eqb x y e) refl
-
-pub other : (rows : List ℕ) (i j : ℕ) (t : Bool) → t ≡ samePosition rows i j → t ≡ false → otherPosition rows i j ≡ true
+other : (rows : List ℕ) (i j : ℕ) (t : Bool) → t ≡ samePosition rows i j → t ≡ false → otherPosition rows i j ≡ true
 other rows i j t e f = rw (← e, f) refl
-
-pub not-other : (rows : List ℕ) (i j : ℕ) (t : Bool) → t ≡ samePosition rows i j → t ≡ true → otherPosition rows i j ≡ false
-not-other rows i j t e f = rw (← e, f) refl
 
 -- ---- a row
 

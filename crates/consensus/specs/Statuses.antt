@@ -5,6 +5,7 @@ use mathlib.Core.Bool.{Bool, true, false, cond}
 use mathlib.Core.List.{List, [], _∷_, _++_}
 use lib.Dec.{eqb, leb}
 use lib.ListN.{length, getD, set}
+use Rattle.index.specs.Keys as keys
 use Rattle.types.specs.declared.reference.AuthorRound.{AuthorRound}
 use Rattle.types.specs.References.{orderOf}
 use Rattle.types.specs.Reports.{Report, Gives, Refuses, numberOf}
@@ -49,7 +50,7 @@ compareStatus a b = Gives (orderOf (positionKey a) (positionKey b) ∷ [])
 -- ---- rows of four words: authority, round, kind, block row
 
 abbrev pub statusWords : ℕ
-statusWords = 4
+statusWords = keys.statusWords
 
 abbrev pub commitKind : ℕ
 commitKind = 1

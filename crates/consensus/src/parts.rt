@@ -1,5 +1,6 @@
 // Statuses as rows of four words: authority, round, kind, block row. Each function is a part: it tests nothing.
 use crate::LeaderStatus;
+pub use index::build::STATUS_WORDS;
 use types::AuthorRound;
 use types::AuthorityIndex;
 use types::RoundNumber;
@@ -7,9 +8,6 @@ use types::words::index;
 use types::words::word;
 ghost use mathlib.Core.Path.{_≡_};
 ghost use Rattle.consensus.specs.Statuses.{statusOf, statusReport, putOf, putWords, reportedStatus};
-
-// The words of a status row.
-pub const STATUS_WORDS: usize = 4;
 
 // The kinds of a status row.
 pub const COMMIT: u64 = 1;

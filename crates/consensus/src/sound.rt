@@ -6,6 +6,7 @@ use crate::parts::STATUS_WORDS;
 use crate::parts::UNDECIDED;
 use block_store::parts::is_at;
 use block_store::sound::zero_from;
+use index::build::positions_are_distinct;
 use types::AuthorityIndex;
 use types::ROUND_LIMIT;
 use types::RoundNumber;
@@ -15,7 +16,7 @@ ghost use mathlib.Core.Path.{_≡_};
 ghost use Prim.Native.Nat.{_<_};
 ghost use Rattle.types.specs.Below.{allBelow};
 ghost use Rattle.consensus.specs.Statuses.{statusWords};
-ghost use Rattle.consensus.specs.Sound.{statusField, blockFits, rowFits, samePosition, newPosition, soundStatuses, soundMemory};
+ghost use Rattle.consensus.specs.Sound.{statusField, blockFits, rowFits, newPosition, soundStatuses, soundMemory};
 
 // Word k of a status row.
 fn field(rows: &[u64], i: usize, k: usize) -> u64
@@ -88,44 +89,11 @@ fn rows_fit(size: u64, blocks: &[u64], stored: usize, most: u64, rows: &[u64], c
     true
 }
 
-// Whether two status rows have one position.
-fn same_position(rows: &[u64], i: usize, j: usize) -> bool
-    ensures { λ r. ⌜ r ≡ samePosition (now (rows .entry)) i j ⌝ }
-{
-    if field(rows, j, 0) != field(rows, i, 0) {
-        return false;
-    }
-    field(rows, j, 1) == field(rows, i, 1)
-}
-
-// Whether no row before row i has its position.
-fn new_position(rows: &[u64], i: usize) -> bool
-    ensures { λ r. ⌜ r ≡ newPosition (now (rows .entry)) i ⌝ }
-{
-    let mut k = 0;
-    while k < i {
-        let j = k;
-        k += 1;
-        if same_position(rows, i, j) {
-            return false;
-        }
-    }
-    true
-}
-
 // Whether no position occurs twice in the first `count` rows.
 fn positions_differ(rows: &[u64], count: usize) -> bool
     ensures { λ r. ⌜ r ≡ allBelow (newPosition (now (rows .entry))) count ⌝ }
 {
-    let mut k = 0;
-    while k < count {
-        let i = k;
-        k += 1;
-        if !new_position(rows, i) {
-            return false;
-        }
-    }
-    true
+    positions_are_distinct(rows, count)
 }
 
 // Whether a list of statuses, which is its whole slice, is sound for a committee of that size.

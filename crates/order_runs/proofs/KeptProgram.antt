@@ -13,8 +13,8 @@ use Rattle.committee.specs.declared.Committee.{Committee}
 use Rattle.order_runs.proofs.KeptRuns.{kept-sound, all-pass, never-three}
 use Rattle.decisions.specs.Decisions.{areaRows}
 use Rattle.order_runs.specs.Runs.{Offer, Held, heldIn, startHeld, nextHeld, heldFrom, programIncludes, programHeld, heldOver, ComesTo, SoundHeld, TestsPass, NoThree}
-use Rattle.ordering.specs.Starts.{newRun, optionsIn, stakesIn, passes, starts, bad, startWith, startBy, startOf}
-use Rattle.ordering.specs.Steps.{stepMade, nextOf}
+use Rattle.ordering.specs.Starts.{newRun, optionsIn, stakesIn, passes, starts, bad, startWith, startBy, startOf, badInput}
+use Rattle.ordering.specs.Steps.{Made, lineMade, offerMade, stepMade, nextOf}
 use Rattle.ordering.specs.declared.Run.{Run}
 use Rattle.stream.proofs.RecordLaws.{count-most}
 use Rattle.stream.specs.Fields.{whole}
@@ -28,12 +28,12 @@ use Rattle.universal_committer.specs.Options.{soundOptions}
 use Rattle.universal_committer.specs.declared.options.UniversalCommitterOptions.{UniversalCommitterOptions}
 
 -- ---- the header
-record Started (run : Run) : Type 0 where
-  committee : Committee
-  options : UniversalCommitterOptions
-  is : run ≡ newRun committee options
-  sound-committee : soundOf committee ≡ true
-  sound-options : soundOptions options (committee .size) ≡ true
+pub record Started (run : Run) : Type 0 where
+  pub committee : Committee
+  pub options : UniversalCommitterOptions
+  pub is : run ≡ newRun committee options
+  pub sound-committee : soundOf committee ≡ true
+  pub sound-options : soundOptions options (committee .size) ≡ true
 
 not-started : {P : Type 0} (run : Run) (next : ℕ) → bad ≡ starts run next → P
 not-started run next e = absurd (let z : _≡_ {A = ℕ} 0 1 = cc in omega arith)
@@ -63,7 +63,7 @@ started-with stakes o at run next e = go (passes (newVerdict stakes) && soundOpt
         }
     go false et q = not-started run next q
 
-started : (s : List ℕ) (run : Run) (next : ℕ) → startOf s ≡ starts run next → Started run
+pub started : (s : List ℕ) (run : Run) (next : ℕ) → startOf s ≡ starts run next → Started run
 unfolding startOf
 started s run next e = go (headerOf s) e
   where
@@ -98,19 +98,26 @@ offerAt s at =
       whole = omega (arith, length-take (countOf (drop at s) * referenceWords) (includesOf s at), count-most (drop at s), includes-long s at);
     }
 
--- a step is an offer, or changes nothing
-record StepIs (h : Held) (s : List ℕ) (at : ℕ) : Type 0 where
-  offers : List Offer
-  same : heldIn (stepMade (h .run) (h .kept) s at) ≡ heldFrom h offers
-
-step-is : (h : Held) (s : List ℕ) (at : ℕ) → StepIs h s at
-unfolding heldFrom stepMade offerOf offerIn offerAt refAt
-step-is h s at = go (leb (length s) at) (whole (drop at s) (offerFields (countOf (drop at s)))) refl refl
+-- a step is an offer, or a line alone, at the end and at bad input
+pub step-cases : (h : Held) (s : List ℕ) (at : ℕ) (P : Made → Type 0) → P (lineMade (h .run) (h .kept) [] false) → P (lineMade (h .run) (h .kept) badInput false)
+    → ((x : Offer) → P (offerMade (h .run) (h .kept) (x .block) (x .list))) → P (stepMade (h .run) (h .kept) s at)
+unfolding stepMade offerOf offerIn offerAt refAt
+step-cases h s at P ended wrong offered = go (leb (length s) at) (whole (drop at s) (offerFields (countOf (drop at s)))) refl refl
   where
-    go : (t u : Bool) → leb (length s) at ≡ t → whole (drop at s) (offerFields (countOf (drop at s))) ≡ u → StepIs h s at
-    go true u et eu = record { offers = []; same = rw et refl }
-    go false true et eu = record { offers = offerAt s at ∷ []; same = rw (et, eu) refl }
-    go false false et eu = record { offers = []; same = rw (et, eu) refl }
+    go : (t u : Bool) → leb (length s) at ≡ t → whole (drop at s) (offerFields (countOf (drop at s))) ≡ u → P (stepMade (h .run) (h .kept) s at)
+    go true u et eu = rw et ended
+    go false true et eu = rw (et, eu) (offered (offerAt s at))
+    go false false et eu = rw (et, eu) wrong
+
+-- so it comes to one offer or to none
+record StepIs (h : Held) (m : Made) : Type 0 where
+  offers : List Offer
+  same : heldIn m ≡ heldFrom h offers
+
+step-is : (h : Held) (s : List ℕ) (at : ℕ) → StepIs h (stepMade (h .run) (h .kept) s at)
+unfolding heldFrom
+step-is h s at =
+    step-cases h s at (StepIs h) (record { offers = []; same = refl }) (record { offers = []; same = refl }) (λ x. record { offers = x ∷ []; same = refl })
 
 -- ---- any number of steps
 from-append : (h : Held) (xs ys : List Offer) → heldFrom h (xs ++ ys) ≡ heldFrom (heldFrom h xs) ys
@@ -135,7 +142,7 @@ module _ (s : List ℕ) (run : Run) (next n : ℕ) (e : startOf s ≡ starts run
   unfolding startHeld
   fresh = ap programHeld (started s run next e .is)
 
-  now-is : now ≡ heldFrom (startHeld areaRows programIncludes (started s run next e .committee) (started s run next e .options)) (comes-to (programHeld run) s next n .offers)
+  pub now-is : now ≡ heldFrom (startHeld areaRows programIncludes (started s run next e .committee) (started s run next e .options)) (comes-to (programHeld run) s next n .offers)
   now-is = comes-to (programHeld run) s next n .same ∙ ap (λ (h : Held). heldFrom h (comes-to (programHeld run) s next n .offers)) fresh
 
   -- after any number of steps of any stream

@@ -75,7 +75,7 @@ module _ (B R : ℕ) (c : Committee) (o : UniversalCommitterOptions) (few-rows :
     abbrev held : Held
     held = heldFrom (startHeld B R c o) xs
 
-    well : Well (held .run) (held .kept)
+    pub well : Well (held .run) (held .kept)
     well = well-from (startHeld B R c o) xs well-start
 
     -- every table, flag, memory and aggregator stays sound

@@ -112,7 +112,7 @@ module _ (c : Committee) (o : UniversalCommitterOptions) (s : Store) (memory : L
 -- ---- a step
 
 module _ (h : Held) (x : Offer) where
-  abbrev asked : Decided
+  abbrev pub asked : Decided
   asked =
       decidedBy (commitAsked h x) (h .run .committee) (h .run .options) (storeThen h x) (h .kept .memory) (h .run .decided) (h .run .last) (thresholdThen h x) (h .kept .flags)
 
@@ -190,7 +190,7 @@ module _ (h : Held) (w : Well (h .run) (h .kept)) (x : Offer) where
   still-flags : soundFlags (then .blocks) (then .stored) (h .kept .flags) ≡ true
   still-flags = flags-grow (h .kept .blocks) (then .blocks) (h .run .stored) (then .stored) (h .kept .flags) length-then more-then (w .flags)
 
-  few-then : then .stored ≤ areaRows
+  pub few-then : then .stored ≤ areaRows
   few-then = let s = stored-sound (c .size) then tables-then in omega (arith, s .rows-used, length-then, w .rows)
 
   still-free : Free (c .size) (then .blocks) (then .stored) (h .kept .flags) (rankOf (c .size) (h .run .last))
@@ -267,6 +267,13 @@ module _ (h : Held) (w : Well (h .run) (h .kept)) (x : Offer) where
     where
       same : (k : Refusal) → Refused k ≡ Refused n → n ≡ k
       same k p = cc
+
+  -- try_commit gives at most as many statuses as the areas have rows
+  pub few-given : (ns : List ℕ) → commitAsked h x ≡ Gives ns
+      → length (statusesIn (commitOutcome c (h .run .options) (storeThen h x) (h .kept .memory) (h .run .decided) (h .run .last) (thresholdThen h x))) ≤ areaRows
+  few-given =
+      statuses-few c (h .run .options) (storeThen h x) (h .kept .memory) (h .run .decided) (h .run .last) (thresholdThen h x)
+      (w .committee) (w .options) store-then memory-then (w .authority) (w .round) (clock-then (newRows h x) .round)
 
   -- its calls pass their tests
   pub tests-pass : TestsPass h x

@@ -1,7 +1,7 @@
 -- Runs of the ordering program: one offer after another, from areas that are all zero (document 01, "The ordering program"), and what is
 -- promised of every step. Assumes nothing: these are definitions.
-use Prim.Native.Nat.{ℕ, zero, suc, _+_, _-_, _*_, _%_, _<_}
-use lib.ListN.{length, replicate}
+use Prim.Native.Nat.{ℕ, zero, suc, _+_, _-_, _*_, _%_, _≤_, _<_}
+use lib.ListN.{length, take, replicate}
 use mathlib.Core.Bool.{true}
 use mathlib.Core.List.{List, [], _∷_}
 use mathlib.Core.Logic.{_⊎_}
@@ -16,11 +16,12 @@ use Rattle.consensus.specs.Sound.{soundMemory}
 use Rattle.consensus.specs.Statuses.{statusWords}
 use Rattle.linearizer.specs.Commits.{subDags, joined, commitOf}
 use Rattle.linearizer.specs.Flags.{soundFlags}
+use Rattle.lines.specs.Lines.{endOf}
 use Rattle.offers.specs.declared.Offered.{Offered}
 use Rattle.offers.specs.declared.Offered.the-variants.{Refused}
 use Rattle.decisions.specs.Decisions.{areaRows, answerWords, areas, clockAfter, leadersIn, answerIn}
 use Rattle.ordering.specs.Starts.{newRun}
-use Rattle.ordering.specs.Steps.{Kept, keptOf, Made, tablesIn, offerMade, stepMade, nextOf}
+use Rattle.ordering.specs.Steps.{Kept, keptOf, Made, tablesIn, offerMade, stepMade, nextOf, linesIn}
 use Rattle.ordering.specs.declared.Run.{Run}
 use Rattle.threshold_clock.specs.Clocks.{SoundClock, addVerdict}
 use Rattle.threshold_clock.specs.declared.ThresholdClockAggregator.{ThresholdClockAggregator}
@@ -81,6 +82,10 @@ callsOf c (x ∷ xs) = callOf c x ∷ callsOf c xs
 -- "B is 128, R 256"
 abbrev pub programIncludes : ℕ
 programIncludes = 256
+
+-- the bytes of the buffer that it lends each step: LINES of `ordering`
+abbrev pub bufferBytes : ℕ
+bufferBytes = 12288
 
 -- what the program has where the header has started a run
 abbrev pub programHeld : Run → Held
@@ -168,6 +173,13 @@ pub record NoThree (h : Held) (x : Offer) : Type 0 where
   pub clock : (n : ℕ) → n < newRows h x → clockAsked h x n ≡ Refuses 3 → ⊥
   pub commit : commitAsked h x ≡ Refuses 3 → ⊥
   pub order : orderAsked h x ≡ Refuses 3 → ⊥
+
+-- nothing of a step's lines is cut off: they have room in the program's buffer, they end there where they end by themselves, and the bytes
+-- up to that end, which the program prints, are the lines
+pub record LinesFit (text : List ℕ) : Type 0 where
+  pub room : length text ≤ bufferBytes
+  pub ends : endOf bufferBytes 0 (length text) ≡ length text
+  pub printed : take (endOf bufferBytes 0 (length text)) (linesIn bufferBytes text) ≡ text
 
 -- the tables are those of the calls of add_block, for which condition 3 holds
 pub record RunExact (B R : ℕ) (c : Committee) (o : UniversalCommitterOptions) (xs : List Offer) : Type 0 where

@@ -1,55 +1,15 @@
--- `are_distinct` meets its contract. The loop's invariant: no row passed has a reference of a row before it. Assumes nothing.
-use Prim.Native.Nat.{_≤_, _-_}
+-- The test of keys is that of references. Assumes nothing.
 use borrow.Author.Needs.{needs}
-use borrow.Author.Tests.{not-true, not-false}
-use mathlib.Core.Bool.{true}
-use mathlib.Core.Path.{_≡_, sym, _∙_}
-use native.Mathlib.Omega.{arith}
-use Rattle.block_store.specs.Sound.{newRow, distinctRows}
-use Rattle.types.proofs.Below.{all-done, all-zero, all-more, all-fails}
-use Rattle.types.specs.Below.{allBelow}
+use mathlib.Core.Path.{_∙_}
+use Rattle.block_store.proofs.Twins.{distinct-keys}
 use Rattle.block_store.proofs.distinct.are_distinct.Statement.{statement}
 use Rattle.block_store.proofs.distinct.are_distinct.Tie as tie
 
-abbrev Inv-loop : tie.InvT-loop
-Inv-loop blocks n i₀ i = (i ≤ n) × (allBelow (newRow blocks) i ≡ true)
+references-are-distinct-requires : tie.Need-references-are-distinct-requires
+references-are-distinct-requires c κs = search needs
 
-abbrev μ-loop : tie.MeasureT-loop
-μ-loop blocks n i₀ i = n - i
-
-loop-holds : tie.Need-loop-holds Inv-loop μ-loop
-loop-holds c = (omega arith, all-zero _)
-
-add-i : tie.Need-add-i Inv-loop μ-loop
-add-i c = search needs
-
-is-new-requires : tie.Need-is-new-requires Inv-loop μ-loop
-is-new-requires c κs = search needs
-
-returns : tie.Need-returns Inv-loop μ-loop
-unfolding distinctRows
-returns c = sym (all-fails (newRow (c .before .before .before .before .before .args .blocks .now)) (c .before .before .before .before .before .args .n) (c .before .before .before .loop .i) (c .before .before .loop-test .taken) (sym (c .before .is-new .ensures) ∙ not-true _ (c .if1 .taken)))
-
-loop-less : tie.Need-loop-less Inv-loop μ-loop
-loop-less c = search needs
-
-loop-again : tie.Need-loop-again Inv-loop μ-loop
-loop-again c = (omega arith, all-more (newRow (c .before .before .before .before .before .args .blocks .now)) (c .before .before .before .loop .i) (c .before .before .before .loop .inv .1) (sym (c .before .is-new .ensures) ∙ not-false _ (c .if1 .left)))
-
-returns-2 : tie.Need-returns-2 Inv-loop μ-loop
-unfolding distinctRows
-returns-2 c = all-done (newRow (c .before .before .before .args .blocks .now)) (c .before .before .before .args .n) (c .before .loop .i) (c .before .loop .inv .0) (c .loop-test .left) (c .before .loop .inv .1)
+returns : tie.Need-returns
+returns c = c .references-are-distinct .ensures ∙ distinct-keys _ _
 
 pub are-distinct-spec : {M : Type 1} → statement M
-are-distinct-spec =
-    tie.close
-    (tie.spec
-    Inv-loop
-    μ-loop
-    loop-holds
-    add-i
-    is-new-requires
-    returns
-    loop-less
-    loop-again
-    returns-2)
+are-distinct-spec = tie.close (tie.spec references-are-distinct-requires returns)

@@ -1,58 +1,23 @@
--- `store_is_sound` meets its contract. Each test that fails makes the conjunction false; past three of them it is the last. Assumes nothing.
+-- `store_is_sound` meets its contract: all but the references, and then these. Assumes nothing.
 use borrow.Author.Needs.{needs}
 use borrow.Author.Tests.{not-true, not-false}
-use lib.ListN.{length}
 use mathlib.Core.Path.{refl, sym, _∙_}
-use native.Mathlib.Omega.{arith}
-use Rattle.block_store.proofs.Tests.{sized}
-use Rattle.block_store.specs.Sound.{soundStore}
+use Rattle.block_store.proofs.Twins.{sound-split}
 use Rattle.block_store.proofs.sound.store_is_sound.Statement.{statement}
 use Rattle.block_store.proofs.sound.store_is_sound.Tie as tie
 
-sizes-are-sound-requires : tie.Need-sizes-are-sound-requires
-sizes-are-sound-requires c κs = search needs
+store-is-sound-but-twins-requires : tie.Need-store-is-sound-but-twins-requires
+store-is-sound-but-twins-requires c κs = search needs
 
 returns : tie.Need-returns
-unfolding soundStore
-returns c = rw (sym (c .before .sizes-are-sound .ensures) ∙ not-true _ (c .if1 .taken)) refl
-
-rows-are-sound-requires : tie.Need-rows-are-sound-requires
-rows-are-sound-requires c κs = search needs
-
-returns-2 : tie.Need-returns-2
-unfolding soundStore
-returns-2 c = rw (sym (c .before .before .before .sizes-are-sound .ensures) ∙ not-false _ (c .before .before .if1 .left), sym (c .before .rows-are-sound .ensures) ∙ not-true _ (c .if2 .taken)) refl
-
-mul-zero-from : tie.Need-mul-zero-from
-mul-zero-from c =
-    let a = c .before .before .before .before .before .before .args in
-    let z = sized (length (a .blocks .now)) (length (a .includes .now)) (a .stored) (sym (c .before .before .before .sizes-are-sound .ensures) ∙ not-false _ (c .before .before .if1 .left)) in
-    omega (arith, z .rows-used, z .few-rows)
-
-zero-from-requires : tie.Need-zero-from-requires
-zero-from-requires c κs = search needs
-
-returns-3 : tie.Need-returns-3
-unfolding soundStore
-returns-3 c = rw (sym (c .before .before .before .before .before .sizes-are-sound .ensures) ∙ not-false _ (c .before .before .before .before .if1 .left), sym (c .before .before .before .rows-are-sound .ensures) ∙ not-false _ (c .before .before .if2 .left), sym (c .before .zero-from .ensures) ∙ not-true _ (c .if3 .taken)) refl
+returns c = sym (sound-split _ _ ∙ rw (sym (c .before .store-is-sound-but-twins .ensures) ∙ not-true _ (c .if1 .taken)) refl)
 
 are-distinct-requires : tie.Need-are-distinct-requires
 are-distinct-requires c κs = search needs
 
-returns-4 : tie.Need-returns-4
-unfolding soundStore
-returns-4 c = rw (sym (c .before .before .before .before .before .before .sizes-are-sound .ensures) ∙ not-false _ (c .before .before .before .before .before .if1 .left), sym (c .before .before .before .before .rows-are-sound .ensures) ∙ not-false _ (c .before .before .before .if2 .left), sym (c .before .before .zero-from .ensures) ∙ not-false _ (c .before .if3 .left)) (c .are-distinct .ensures)
+returns-2 : tie.Need-returns-2
+returns-2 c = c .are-distinct .ensures ∙ sym (sound-split _ _ ∙ rw (sym (c .before .before .store-is-sound-but-twins .ensures) ∙ not-false _ (c .before .if1 .left)) refl)
 
 pub store-is-sound-spec : {M : Type 1} → statement M
 store-is-sound-spec =
-    tie.close
-    (tie.spec
-    sizes-are-sound-requires
-    returns
-    rows-are-sound-requires
-    returns-2
-    mul-zero-from
-    zero-from-requires
-    returns-3
-    are-distinct-requires
-    returns-4)
+    tie.close (tie.spec store-is-sound-but-twins-requires returns are-distinct-requires returns-2)

@@ -14,13 +14,13 @@ returns : tie.Need-returns
 unfolding soundNamed
 returns c = rw (sym (c .before .all-below .ensures) ∙ not-true _ (c .if1 .taken)) refl
 
-all-stored-requires : tie.Need-all-stored-requires
-all-stored-requires c κs = search needs
+all-in-requires : tie.Need-all-in-requires
+all-in-requires c κs = c .before .before .before .before .before .pre
 
 returns-2 : tie.Need-returns-2
 unfolding soundNamed
-returns-2 c = rw (sym (c .before .before .all-below .ensures) ∙ not-false _ (c .before .if1 .left)) (ap not (c .all-stored .ensures))
+returns-2 c = rw (sym (c .before .before .all-below .ensures) ∙ not-false _ (c .before .if1 .left)) (ap not (c .all-in .ensures))
 
 pub named-are-sound-spec : {M : Type 1} → statement M
 named-are-sound-spec =
-    tie.close (tie.spec all-below-requires returns all-stored-requires returns-2)
+    tie.close (tie.spec all-below-requires returns all-in-requires returns-2)

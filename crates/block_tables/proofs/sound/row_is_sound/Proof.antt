@@ -34,30 +34,30 @@ first-at-requires : tie.Need-first-at-requires
 first-at-requires c κs = search needs
 
 returns-4 : tie.Need-returns-4
-returns-4 c = sym (fails _ (λ e. c .if4 .taken (c .before .first-at .ensures ∙ row-says _ _ _ _ e .first ∙ sym (c .before .before .before .before .before .before .before .before .before .before .before .before .before .pre))))
+returns-4 c = sym (fails _ (λ e. c .if4 .taken (c .before .first-at .ensures ∙ row-says _ _ _ _ e .first ∙ sym (c .before .before .before .before .before .before .before .before .before .before .before .before .before .before .pre .1))))
 
 reference-of-requires : tie.Need-reference-of-requires
 reference-of-requires c κs = search needs
 
-row-of-requires : tie.Need-row-of-requires
-row-of-requires c κs = search needs
+row-in-requires : tie.Need-row-in-requires
+row-in-requires c κs = c .before .before .before .before .before .before .before .before .before .before .before .before .before .before .before .pre .0
 
 returns-5 : tie.Need-returns-5
-returns-5 c = sym (fails _ (λ e. clash (found-among (c .before .before .before .before .before .before .before .before .before .before .before .before .before .before .before .before .args .blocks .now) (c .before .before .before .before .before .before .before .before .before .before .before .before .before .before .before .before .args .stored) _ _ _ (c .before .before .reference-of .ensures) (c .before .row-of .ensures) (c .if5 .taken)) (row-says _ _ _ _ e .new)))
+returns-5 c = sym (fails _ (λ e. clash (found-among (c .before .before .before .before .before .before .before .before .before .before .before .before .before .before .before .before .before .args .blocks .now) (c .before .before .before .before .before .before .before .before .before .before .before .before .before .before .before .before .before .args .stored) _ _ _ (c .before .before .reference-of .ensures) (c .before .row-in .ensures) (c .if5 .taken)) (row-says _ _ _ _ e .new)))
 
 named-by-requires : tie.Need-named-by-requires
 named-by-requires c κs = search needs
 
 named-are-sound-requires : tie.Need-named-are-sound-requires
-named-are-sound-requires c κs = search needs
+named-are-sound-requires c κs = c .before .before .before .before .before .before .before .before .before .before .before .before .before .before .before .before .before .before .pre .0
 
 returns-6 : tie.Need-returns-6
 returns-6 c =
-    let p : Store = storeOf (c .before .before .before .before .before .before .before .before .before .before .before .before .before .before .before .before .before .before .args .waiting .now) (c .before .before .before .before .before .before .before .before .before .before .before .before .before .before .before .before .before .before .args .named .now) (c .before .before .before .before .before .before .before .before .before .before .before .before .before .before .before .before .before .before .args .pending) in
-    let refs : List BlockReference = refRows (c .before .before .before .before .before .before .before .before .before .before .before .before .before .before .before .before .before .before .args .blocks .now) 0 (c .before .before .before .before .before .before .before .before .before .before .before .before .before .before .before .before .before .before .args .stored) in
+    let p : Store = storeOf (c .before .before .before .before .before .before .before .before .before .before .before .before .before .before .before .before .before .before .before .args .waiting .now) (c .before .before .before .before .before .before .before .before .before .before .before .before .before .before .before .before .before .before .before .args .named .now) (c .before .before .before .before .before .before .before .before .before .before .before .before .before .before .before .before .before .before .before .args .pending) in
+    let refs : List BlockReference = refRows (c .before .before .before .before .before .before .before .before .before .before .before .before .before .before .before .before .before .before .before .args .blocks .now) 0 (c .before .before .before .before .before .before .before .before .before .before .before .before .before .before .before .before .before .before .before .args .stored) in
     c .named-are-sound .ensures
-    ∙ (λ i. soundNamed (c .before .before .before .before .before .before .before .before .before .before .before .before .before .before .before .before .before .before .args .size) refs (c .before .before .before .before .before .before .before .before .before .before .before .round-at .ensures i) (c .before .named-by .ensures i))
-    ∙ row-named (c .before .before .before .before .before .before .before .before .before .before .before .before .before .before .before .before .before .before .args .size) refs p (c .before .before .before .before .before .before .before .before .before .before .before .before .before .before .before .before .before .before .args .row) (omega (arith, c .before .before .before .before .before .before .before .before .before .before .before .before .before .before .authority-at .ensures, c .before .before .before .before .before .before .before .before .before .before .before .before .if1 .left)) (omega (arith, c .before .before .before .before .before .before .before .before .before .before .before .round-at .ensures, c .before .before .before .before .before .before .before .before .before .if2 .left)) (omega (arith, c .before .before .before .before .before .before .before .before .count-at .ensures, c .before .before .before .before .before .before .before .if3 .left)) (sym (c .before .before .before .before .before .before .first-at .ensures) ∙ c .before .before .before .before .before .if4 .left ∙ c .before .before .before .before .before .before .before .before .before .before .before .before .before .before .before .before .before .before .pre) (not-found-among (c .before .before .before .before .before .before .before .before .before .before .before .before .before .before .before .before .before .before .args .blocks .now) (c .before .before .before .before .before .before .before .before .before .before .before .before .before .before .before .before .before .before .args .stored) _ _ _ (c .before .before .before .before .reference-of .ensures) (c .before .before .before .row-of .ensures) (c .before .before .if5 .left))
+    ∙ (λ i. soundNamed (c .before .before .before .before .before .before .before .before .before .before .before .before .before .before .before .before .before .before .before .args .size) refs (c .before .before .before .before .before .before .before .before .before .before .before .round-at .ensures i) (c .before .named-by .ensures i))
+    ∙ row-named (c .before .before .before .before .before .before .before .before .before .before .before .before .before .before .before .before .before .before .before .args .size) refs p (c .before .before .before .before .before .before .before .before .before .before .before .before .before .before .before .before .before .before .before .args .row) (omega (arith, c .before .before .before .before .before .before .before .before .before .before .before .before .before .before .authority-at .ensures, c .before .before .before .before .before .before .before .before .before .before .before .before .if1 .left)) (omega (arith, c .before .before .before .before .before .before .before .before .before .before .before .round-at .ensures, c .before .before .before .before .before .before .before .before .before .if2 .left)) (omega (arith, c .before .before .before .before .before .before .before .before .count-at .ensures, c .before .before .before .before .before .before .before .if3 .left)) (sym (c .before .before .before .before .before .before .first-at .ensures) ∙ c .before .before .before .before .before .if4 .left ∙ c .before .before .before .before .before .before .before .before .before .before .before .before .before .before .before .before .before .before .before .pre .1) (not-found-among (c .before .before .before .before .before .before .before .before .before .before .before .before .before .before .before .before .before .before .before .args .blocks .now) (c .before .before .before .before .before .before .before .before .before .before .before .before .before .before .before .before .before .before .before .args .stored) _ _ _ (c .before .before .before .before .reference-of .ensures) (c .before .before .before .row-in .ensures) (c .before .before .if5 .left))
 
 pub row-is-sound-spec : {M : Type 1} → statement M
 row-is-sound-spec =
@@ -72,7 +72,7 @@ row-is-sound-spec =
     first-at-requires
     returns-4
     reference-of-requires
-    row-of-requires
+    row-in-requires
     returns-5
     named-by-requires
     named-are-sound-requires

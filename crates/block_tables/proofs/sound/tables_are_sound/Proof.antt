@@ -1,101 +1,39 @@
--- The tests in order; the ends of the last stretches are the totals once the rows are sound.
+-- By how many rows are stored; more than a table has are refused.
 use borrow.Author.Needs.{needs}
-use borrow.Author.Tests.{not-true, not-false}
-use mathlib.Core.Path.{sym, _∙_, refl}
-use native.Mathlib.Omega.{arith}
-use Rattle.block_tables.proofs.Testing.{used-bound, too-many, not-too-many, few-rows}
-use Rattle.block_tables.specs.Sound.{soundTables}
-use Rattle.block_tables.specs.Words.{Tables, tablesOf}
+use Rattle.block_tables.proofs.Testing.{rows-stop}
+use Rattle.block_tables.specs.Words.{tablesOf}
 use Rattle.block_tables.proofs.sound.tables_are_sound.Statement.{statement}
 use Rattle.block_tables.proofs.sound.tables_are_sound.Tie as tie
 
-store-is-sound-requires : tie.Need-store-is-sound-requires
-store-is-sound-requires c κs = search needs
+tables-256-requires : tie.Need-tables-256-requires
+tables-256-requires c κs = search needs
 
 returns : tie.Need-returns
-unfolding soundTables
-returns c = rw (sym (c .before .store-is-sound .ensures) ∙ not-true _ (c .if1 .taken)) refl
+returns c = search needs
 
-sizes-are-sound-requires : tie.Need-sizes-are-sound-requires
-sizes-are-sound-requires c κs = search needs
+tables-4096-requires : tie.Need-tables-4096-requires
+tables-4096-requires c κs = search needs
 
 returns-2 : tie.Need-returns-2
-unfolding soundTables
-returns-2 c = rw (sym (c .before .before .before .store-is-sound .ensures) ∙ not-false _ (c .before .before .if1 .left), sym (c .before .sizes-are-sound .ensures) ∙ not-true _ (c .if2 .taken)) refl
+returns-2 c = search needs
 
-rows-are-sound-requires : tie.Need-rows-are-sound-requires
-rows-are-sound-requires c κs = search needs
+tables-65536-requires : tie.Need-tables-65536-requires
+tables-65536-requires c κs = search needs
 
 returns-3 : tie.Need-returns-3
-unfolding soundTables
-returns-3 c = rw (sym (c .before .before .before .before .before .store-is-sound .ensures) ∙ not-false _ (c .before .before .before .before .if1 .left), sym (c .before .before .before .sizes-are-sound .ensures) ∙ not-false _ (c .before .before .if2 .left), sym (c .before .rows-are-sound .ensures) ∙ not-true _ (c .if3 .taken)) refl
-
-used-includes-requires : tie.Need-used-includes-requires
-used-includes-requires c κs = search needs
-
-used-includes-requires-2 : tie.Need-used-includes-requires-2
-used-includes-requires-2 c κs = search needs
-
-add-if4 : tie.Need-add-if4
-add-if4 c = omega (arith, c .before .used-includes .ensures, c .used-includes2 .ensures, used-bound (c .before .before .before .before .before .before .before .before .before .before .before .before .args .blocks .now) (c .before .before .before .before .before .before .before .before .before .before .before .before .args .stored), used-bound (c .before .before .before .before .before .before .before .before .before .before .before .before .args .waiting .now) (c .before .before .before .before .before .before .before .before .before .before .before .before .args .pending))
+returns-3 c = search needs
 
 returns-4 : tie.Need-returns-4
-unfolding soundTables
-returns-4 c =
-    let t : Tables = tablesOf (c .before .before .before .before .before .before .before .before .before .before .before .before .before .args .blocks .now) (c .before .before .before .before .before .before .before .before .before .before .before .before .before .args .includes .now) (c .before .before .before .before .before .before .before .before .before .before .before .before .before .args .stored) (c .before .before .before .before .before .before .before .before .before .before .before .before .before .args .waiting .now) (c .before .before .before .before .before .before .before .before .before .before .before .before .before .args .named .now) (c .before .before .before .before .before .before .before .before .before .before .before .before .before .args .pending) in
-    let es = sym (c .before .before .before .before .before .before .before .before .store-is-sound .ensures) ∙ not-false _ (c .before .before .before .before .before .before .before .if1 .left) in
-    let ez = sym (c .before .before .before .before .before .before .sizes-are-sound .ensures) ∙ not-false _ (c .before .before .before .before .before .if2 .left) in
-    let er = sym (c .before .before .before .before .rows-are-sound .ensures) ∙ not-false _ (c .before .before .before .if3 .left) in
-    rw (es, ez, er, too-many (c .before .before .before .before .before .before .before .before .before .before .before .before .before .args .size) t es ez er (omega (arith, c .before .before .used-includes .ensures, c .before .used-includes2 .ensures, c .if4 .taken))) refl
-
-mul-zero-from : tie.Need-mul-zero-from
-mul-zero-from c =
-    let t : Tables = tablesOf (c .before .before .before .before .before .before .before .before .before .before .before .before .before .args .blocks .now) (c .before .before .before .before .before .before .before .before .before .before .before .before .before .args .includes .now) (c .before .before .before .before .before .before .before .before .before .before .before .before .before .args .stored) (c .before .before .before .before .before .before .before .before .before .before .before .before .before .args .waiting .now) (c .before .before .before .before .before .before .before .before .before .before .before .before .before .args .named .now) (c .before .before .before .before .before .before .before .before .before .before .before .before .before .args .pending) in
-    let es = sym (c .before .before .before .before .before .before .before .before .store-is-sound .ensures) ∙ not-false _ (c .before .before .before .before .before .before .before .if1 .left) in
-    let ez = sym (c .before .before .before .before .before .before .sizes-are-sound .ensures) ∙ not-false _ (c .before .before .before .before .before .if2 .left) in
-    let er = sym (c .before .before .before .before .rows-are-sound .ensures) ∙ not-false _ (c .before .before .before .if3 .left) in
-    omega (arith, few-rows (c .before .before .before .before .before .before .before .before .before .before .before .before .before .args .size) t es ez er)
-
-zero-from-requires : tie.Need-zero-from-requires
-zero-from-requires c κs = search needs
-
-returns-5 : tie.Need-returns-5
-unfolding soundTables
-returns-5 c =
-    let t : Tables = tablesOf (c .before .before .before .before .before .before .before .before .before .before .before .before .before .before .before .args .blocks .now) (c .before .before .before .before .before .before .before .before .before .before .before .before .before .before .before .args .includes .now) (c .before .before .before .before .before .before .before .before .before .before .before .before .before .before .before .args .stored) (c .before .before .before .before .before .before .before .before .before .before .before .before .before .before .before .args .waiting .now) (c .before .before .before .before .before .before .before .before .before .before .before .before .before .before .before .args .named .now) (c .before .before .before .before .before .before .before .before .before .before .before .before .before .before .before .args .pending) in
-    let es = sym (c .before .before .before .before .before .before .before .before .before .before .store-is-sound .ensures) ∙ not-false _ (c .before .before .before .before .before .before .before .before .before .if1 .left) in
-    let ez = sym (c .before .before .before .before .before .before .before .before .sizes-are-sound .ensures) ∙ not-false _ (c .before .before .before .before .before .before .before .if2 .left) in
-    let er = sym (c .before .before .before .before .before .before .rows-are-sound .ensures) ∙ not-false _ (c .before .before .before .before .before .if3 .left) in
-    rw (es, ez, er, not-too-many (c .before .before .before .before .before .before .before .before .before .before .before .before .before .before .before .args .size) t es ez er (omega (arith, c .before .before .before .before .used-includes .ensures, c .before .before .before .used-includes2 .ensures, c .before .before .if4 .left)), sym (c .before .zero-from .ensures) ∙ not-true _ (c .if5 .taken)) refl
-
-are-distinct-requires : tie.Need-are-distinct-requires
-are-distinct-requires c κs = search needs
-
-returns-6 : tie.Need-returns-6
-unfolding soundTables
-returns-6 c =
-    let t : Tables = tablesOf (c .before .before .before .before .before .before .before .before .before .before .before .before .before .before .before .before .args .blocks .now) (c .before .before .before .before .before .before .before .before .before .before .before .before .before .before .before .before .args .includes .now) (c .before .before .before .before .before .before .before .before .before .before .before .before .before .before .before .before .args .stored) (c .before .before .before .before .before .before .before .before .before .before .before .before .before .before .before .before .args .waiting .now) (c .before .before .before .before .before .before .before .before .before .before .before .before .before .before .before .before .args .named .now) (c .before .before .before .before .before .before .before .before .before .before .before .before .before .before .before .before .args .pending) in
-    let es = sym (c .before .before .before .before .before .before .before .before .before .before .before .store-is-sound .ensures) ∙ not-false _ (c .before .before .before .before .before .before .before .before .before .before .if1 .left) in
-    let ez = sym (c .before .before .before .before .before .before .before .before .before .sizes-are-sound .ensures) ∙ not-false _ (c .before .before .before .before .before .before .before .before .if2 .left) in
-    let er = sym (c .before .before .before .before .before .before .before .rows-are-sound .ensures) ∙ not-false _ (c .before .before .before .before .before .before .if3 .left) in
-    rw (es, ez, er, not-too-many (c .before .before .before .before .before .before .before .before .before .before .before .before .before .before .before .before .args .size) t es ez er (omega (arith, c .before .before .before .before .before .used-includes .ensures, c .before .before .before .before .used-includes2 .ensures, c .before .before .before .if4 .left)), sym (c .before .before .zero-from .ensures) ∙ not-false _ (c .before .if5 .left)) (c .are-distinct .ensures)
+returns-4 c = rows-stop (c .before .before .before .before .before .before .before .args .size) (tablesOf (c .before .before .before .before .before .before .before .args .blocks .now) (c .before .before .before .before .before .before .before .args .includes .now) (c .before .before .before .before .before .before .before .args .stored) (c .before .before .before .before .before .before .before .args .waiting .now) (c .before .before .before .before .before .before .before .args .named .now) (c .before .before .before .before .before .before .before .args .pending)) (c .if3 .left)
 
 pub tables-are-sound-spec : {M : Type 1} → statement M
 tables-are-sound-spec =
     tie.close
     (tie.spec
-    store-is-sound-requires
+    tables-256-requires
     returns
-    sizes-are-sound-requires
+    tables-4096-requires
     returns-2
-    rows-are-sound-requires
+    tables-65536-requires
     returns-3
-    used-includes-requires
-    used-includes-requires-2
-    add-if4
-    returns-4
-    mul-zero-from
-    zero-from-requires
-    returns-5
-    are-distinct-requires
-    returns-6)
+    returns-4)

@@ -1,0 +1,253 @@
+-- Laws for the functions: one for each way round a loop and out of it. Assumes nothing.
+use Prim.Native.Nat.{ℕ, suc, _+_, _-_, _*_, _≤_, _<_}
+use borrow.Author.Count.{below-more}
+use borrow.Author.Tests.{lt-ltb, le-ltb, eqb-true, le-leb, lt-leb}
+use lib.Dec.{eqb}
+use lib.ListN.{length, getD, set, replicate, drop, List·getD-eq-default}
+use mathlib.Core.Bool.{Bool, true, false}
+use mathlib.Core.List.{List, [], _∷_, _++_}
+use mathlib.Core.Logic.{⊎-elim}
+use mathlib.Core.Path.{_≡_, refl, sym, ap, _∙_}
+use native.Mathlib.Nat.{mul-le-mul, le-mul-of-pos-right}
+use native.Mathlib.Numerals.{add-one}
+use native.Mathlib.Omega.{arith}
+use Rattle.index.specs.Keys.{wordsFrom, keyAt, comesBefore, distinctKeys}
+use Rattle.index.specs.Order.{Rising, PlacedAt}
+use Rattle.index.specs.Places.{beforeFlag, placeOf, putRows, inOrder, hasRoom, orderedRows, frontAfter}
+use Rattle.index.specs.Search.{middle, searchIn, rowAtEntry, foundRow}
+use Rattle.types.proofs.Below.{sum-more}
+use Rattle.types.proofs.References.{order-differs, order-same}
+use Rattle.types.proofs.Tests.{lt-or-le}
+use Rattle.types.specs.Below.{sumBelow}
+use Rattle.types.specs.Limits.{maxBlocks}
+use Rattle.types.specs.References.{orderOf, digestWords}
+use Rattle.types.specs.declared.reference.BlockDigest.{BlockDigest}
+
+-- ---- field
+
+-- a word of a row below n stands below 8 n
+pub row-fits : (row width n : ℕ) → row < n → width ≤ 8 → row * width + 8 ≤ n * 8
+row-fits row width n l h =
+    let a : row * width ≤ row * 8 = mul-le-mul {n₁ = row} {m₁ = width} {n₂ = row} {m₂ = 8} (omega arith) h in
+    omega arith
+
+-- a row from the table's length on has zeros
+pub row-beyond : (w : List ℕ) (row width k : ℕ) → length w ≤ row → 0 < width → 0 ≡ getD w (row * width + k) 0
+row-beyond w row width k l h =
+    let a : row ≤ row * width = le-mul-of-pos-right row h in
+    sym (List·getD-eq-default w 0 {n = row * width + k} (omega arith))
+
+-- ---- compare_more
+
+abbrev pub restOrder : List ℕ → ℕ → ℕ → ℕ → ℕ → ℕ
+restOrder w a b k m = orderOf (wordsFrom w a k m) (wordsFrom w b k m)
+
+module _ (w : List ℕ) (a b k m x y : ℕ) (more : 0 < m) (ex : x ≡ getD w (a + k) 0) (ey : y ≡ getD w (b + k) 0) where
+  first-word : (at : ℕ) → wordsFrom w at k m ≡ getD w (at + k) 0 ∷ wordsFrom w at (k + 1) (m - 1)
+  unfolding wordsFrom
+  first-word at =
+      let q : m ≡ suc (m - 1) = omega arith in
+      let s : suc k ≡ k + 1 = omega arith in
+      ap (wordsFrom w at k) q ∙ ap (λ (i : ℕ). getD w (at + k) 0 ∷ wordsFrom w at i (m - 1)) s
+
+  opened : restOrder w a b k m ≡ orderOf (x ∷ wordsFrom w a (k + 1) (m - 1)) (y ∷ wordsFrom w b (k + 1) (m - 1))
+  opened = rw (first-word a, first-word b, ← ex, ← ey) refl
+
+  pub rest-differs : (x ≡ y → ⊥) → orderOf (x ∷ []) (y ∷ []) ≡ restOrder w a b k m
+  rest-differs n = sym (opened ∙ order-differs x y (wordsFrom w a (k + 1) (m - 1)) (wordsFrom w b (k + 1) (m - 1)) n)
+
+  pub rest-same : x ≡ y → restOrder w a b (k + 1) (m - 1) ≡ restOrder w a b k m
+  rest-same e = sym (opened ∙ order-same x y (wordsFrom w a (k + 1) (m - 1)) (wordsFrom w b (k + 1) (m - 1)) e)
+
+pub rest-end : (w : List ℕ) (a b k m : ℕ) → m ≤ 0 → 1 ≡ restOrder w a b k m
+unfolding wordsFrom orderOf
+rest-end w a b k m h = let q : m ≡ 0 = omega arith in rw q refl
+
+-- ---- is_rising
+
+-- the entries below k
+pub record Risen (key : ℕ → List ℕ) (n : ℕ) (p : List ℕ) (k : ℕ) : Type 0 where
+  pub bound : k ≤ n
+  pub within : (j : ℕ) → j < k → getD p j 0 < n
+  pub rises : (j : ℕ) → j + 1 < k → orderOf (key (getD p j 0)) (key (getD p (j + 1) 0)) ≡ 0
+
+module _ (key : ℕ → List ℕ) (n : ℕ) (p : List ℕ) where
+  pub risen-none : Risen key n p 0
+  risen-none = record { bound = omega arith; within = λ j h. absurd (omega arith); rises = λ j h. absurd (omega arith) }
+
+  module _ (k y : ℕ) (inv : Risen key n p k) (h : k < n) (ey : y ≡ getD p k 0) (l : y < n) where
+    more-within : (j : ℕ) → j < k + 1 → getD p j 0 < n
+    more-within = below-more _ _ (inv .within) (omega (arith, ey))
+
+    pub risen-first : k ≡ 0 → Risen key n p (k + 1)
+    risen-first z = record { bound = omega arith; within = more-within; rises = λ j hj. absurd (omega arith) }
+
+    pub risen-next : (x : ℕ) (t : Bool) → (k ≡ 0 → ⊥) → x ≡ getD p (k - 1) 0 → t ≡ comesBefore key x y → t ≡ true → Risen key n p (k + 1)
+    unfolding comesBefore
+    risen-next x t z ex et e = record { bound = omega arith; within = more-within; rises = all }
+      where
+        last : (j : ℕ) → j ≡ k - 1 → orderOf (key (getD p j 0)) (key (getD p (j + 1) 0)) ≡ 0
+        last j q =
+            let q2 : j + 1 ≡ k = omega (arith, z) in
+            rw (q2, q, ← ex, ← ey) (eqb-true (orderOf (key x) (key y)) 0 (sym et ∙ e))
+
+        all : (j : ℕ) → j + 1 < k + 1 → orderOf (key (getD p j 0)) (key (getD p (j + 1) 0)) ≡ 0
+        all j hj = ⊎-elim (λ t. inv .rises j t) (λ t. last j (omega arith)) (lt-or-le (j + 1) k)
+
+  pub risen-all : (k : ℕ) → Risen key n p k → n ≤ k → Rising key n p
+  risen-all k inv h = record { within = λ j l. inv .within j (omega arith); rises = λ j l. inv .rises j (omega arith) }
+
+-- ---- is_placed
+
+pub place-at : (p q : List ℕ) (n i k x : ℕ) → k ≡ getD q i 0 → k < n → x ≡ getD p k 0 → x ≡ i → PlacedAt n p q i
+place-at p q n i k x ek hk ex ei = rw (← ek) (hk, sym ex ∙ ei)
+
+-- ---- place_of, put_rows
+
+module _ (key : ℕ → List ℕ) where
+  pub one-more : (row i place : ℕ) (t : Bool) → place ≡ sumBelow (beforeFlag key row) i → t ≡ comesBefore key i row → t ≡ true → place + 1 ≡ sumBelow (beforeFlag key row) (i + 1)
+  one-more row i place t e et h =
+      let f : beforeFlag key row i ≡ 1 = rw (sym et ∙ h) refl in
+      omega (arith, sum-more (beforeFlag key row) i)
+
+  pub none-more : (row i place : ℕ) (t : Bool) → place ≡ sumBelow (beforeFlag key row) i → t ≡ comesBefore key i row → t ≡ false → place ≡ sumBelow (beforeFlag key row) (i + 1)
+  none-more row i place t e et h =
+      let f : beforeFlag key row i ≡ 0 = rw (sym et ∙ h) refl in
+      omega (arith, sum-more (beforeFlag key row) i)
+
+  pub count-done : (n row i place : ℕ) → i ≤ n → n ≤ i → place ≡ sumBelow (beforeFlag key row) i → place ≡ placeOf key n row
+  unfolding placeOf
+  count-done n row i place a b e = let q : i ≡ n = omega arith in e ∙ ap (sumBelow (beforeFlag key row)) q
+
+  pub put-none : (n : ℕ) (area : List ℕ) → area ≡ putRows key n 0 area
+  unfolding putRows
+  put-none n area = refl
+
+  pub put-more : (n i place x : ℕ) (area₀ area area′ : List ℕ) → area ≡ putRows key n i area₀ → place ≡ placeOf key n i → x ≡ i → area′ ≡ set area place x → area′ ≡ putRows key n (i + 1) area₀
+  unfolding putRows
+  put-more n i place x area₀ area area′ e ep ex en = en ∙ rw (add-one, ep, ex, e) refl
+
+  pub put-done : (n i : ℕ) (area₀ area : List ℕ) → i ≤ n → n ≤ i → area ≡ putRows key n i area₀ → area ≡ putRows key n n area₀
+  put-done n i area₀ area a b e = let q : i ≡ n = omega arith in e ∙ ap (λ (m : ℕ). putRows key n m area₀) q
+
+-- ---- build
+
+module _ (key : ℕ → List ℕ) (n : ℕ) where
+  pub none-ordered : distinctKeys key n ≡ false → replicate n 0 ≡ orderedRows key n
+  unfolding orderedRows
+  none-ordered e = sym (rw e refl)
+
+  pub put-ordered : (area : List ℕ) → area ≡ replicate n 0 → distinctKeys key n ≡ true → putRows key n n area ≡ orderedRows key n
+  unfolding orderedRows inOrder
+  put-ordered area q e = ap (putRows key n n) q ∙ sym (rw e refl)
+
+-- ---- compare
+
+module _ (w : List ℕ) (width more a b x y : ℕ) (ex : x ≡ getD w (a * width + 1) 0) (ey : y ≡ getD w (b * width + 1) 0) where
+  pub by-round : (r : ℕ) → r ≡ orderOf (x ∷ []) (y ∷ []) → (x ≡ y → ⊥) → r ≡ orderOf (keyAt width more w a) (keyAt width more w b)
+  unfolding keyAt
+  by-round r e n = e ∙ rw (← ex, ← ey) (sym (order-differs x y _ _ n))
+
+  module _ (s t : ℕ) (es : s ≡ getD w (a * width + 0) 0) (et : t ≡ getD w (b * width + 0) 0) where
+    pub by-authority : (r : ℕ) → r ≡ orderOf (s ∷ []) (t ∷ []) → x ≡ y → (s ≡ t → ⊥) → r ≡ orderOf (keyAt width more w a) (keyAt width more w b)
+    unfolding keyAt
+    by-authority r e q n = e ∙ rw (← ex, ← ey, ← es, ← et) (sym (order-same x y _ _ q ∙ order-differs s t _ _ n))
+
+    pub by-more : (r : ℕ) → r ≡ restOrder w (a * width) (b * width) 2 more → x ≡ y → s ≡ t → r ≡ orderOf (keyAt width more w a) (keyAt width more w b)
+    unfolding keyAt
+    by-more r e q p = e ∙ rw (← ex, ← ey, ← es, ← et) (sym (order-same x y _ _ q ∙ order-same s t _ _ p))
+
+-- ---- index_references
+
+module _ (n rows work : ℕ) where
+  pub room-none : maxBlocks < n → hasRoom n rows work ≡ false
+  unfolding hasRoom
+  room-none h = rw (lt-leb n maxBlocks h) refl
+
+  pub room-short : n ≤ maxBlocks → rows < n → hasRoom n rows work ≡ false
+  unfolding hasRoom
+  room-short a h = rw (le-leb n maxBlocks a, lt-leb n rows h) refl
+
+  pub room-narrow : n ≤ maxBlocks → n ≤ rows → work < n → hasRoom n rows work ≡ false
+  unfolding hasRoom
+  room-narrow a b h = rw (le-leb n maxBlocks a, le-leb n rows b, lt-leb n work h) refl
+
+  pub room-enough : n ≤ maxBlocks → n ≤ rows → n ≤ work → hasRoom n rows work ≡ true
+  unfolding hasRoom
+  room-enough a b h = rw (le-leb n maxBlocks a, le-leb n rows b, le-leb n work h) refl
+
+module _ (room : Bool) (n : ℕ) (xs area : List ℕ) where
+  pub front-stays : room ≡ false → area ≡ frontAfter room n xs area
+  unfolding frontAfter
+  front-stays e = sym (rw e refl)
+
+  pub front-taken : room ≡ true → (part : List ℕ) → part ≡ xs → part ++ drop (n - 0) area ≡ frontAfter room n xs area
+  unfolding frontAfter
+  front-taken e part ep =
+      let q : n - 0 ≡ n = omega arith in
+      rw (e, ep, q) refl
+
+-- ---- entry_of
+
+module _ (key : ℕ → List ℕ) (order x : List ℕ) (steps low high : ℕ) where
+  pub search-end : steps ≤ 0 → low ≡ searchIn key order x steps low high
+  unfolding searchIn
+  search-end h = let q : steps ≡ 0 = omega arith in rw q refl
+
+  module _ (more : 0 < steps) where
+    search-step : searchIn key order x steps low high ≡ searchIn key order x (suc (steps - 1)) low high
+    search-step = let q : steps ≡ suc (steps - 1) = omega arith in ap (λ (s : ℕ). searchIn key order x s low high) q
+
+    pub search-stop : high ≤ low → low ≡ searchIn key order x steps low high
+    unfolding searchIn
+    search-stop h = sym (search-step ∙ rw (le-ltb low high h) refl)
+
+    module _ (row : ℕ) (t : Bool) (l : low < high) (er : row ≡ getD order (middle low high) 0) (et : t ≡ eqb (orderOf (key row) x) 0) where
+      told : eqb (orderOf (key (getD order (middle low high) 0)) x) 0 ≡ t
+      told = sym (et ∙ ap (λ (r : ℕ). eqb (orderOf (key r) x) 0) er)
+
+      pub search-up : t ≡ true → searchIn key order x (steps - 1) (middle low high + 1) high ≡ searchIn key order x steps low high
+      unfolding searchIn
+      search-up e = sym (search-step ∙ rw (lt-ltb low high l, told ∙ e) refl)
+
+      pub search-down : t ≡ false → searchIn key order x (steps - 1) low (middle low high) ≡ searchIn key order x steps low high
+      unfolding searchIn
+      search-down e = sym (search-step ∙ rw (lt-ltb low high l, told ∙ e) refl)
+
+-- ---- row_by
+
+module _ (key : ℕ → List ℕ) (order x : List ℕ) (n place : ℕ) (ep : place ≡ searchIn key order x n 0 n) where
+  pub entry-none : n ≤ place → n ≡ foundRow key order n x
+  unfolding foundRow rowAtEntry
+  entry-none h = rw (← ep, le-ltb place n h) refl
+
+  module _ (row : ℕ) (t : Bool) (l : place < n) (er : row ≡ getD order place 0) (et : t ≡ eqb (orderOf (key row) x) 1) where
+    holds : eqb (orderOf (key (getD order place 0)) x) 1 ≡ t
+    holds = sym (et ∙ ap (λ (r : ℕ). eqb (orderOf (key r) x) 1) er)
+
+    pub entry-other : t ≡ false → n ≡ foundRow key order n x
+    unfolding foundRow rowAtEntry
+    entry-other e = rw (← ep, lt-ltb place n l, holds ∙ e) refl
+
+    pub entry-found : t ≡ true → row ≡ foundRow key order n x
+    unfolding foundRow rowAtEntry
+    entry-found e = rw (← ep, lt-ltb place n l, holds ∙ e) er
+
+-- ---- compare_digest, compare_reference
+
+module _ (w : List ℕ) (at : ℕ) (d : BlockDigest) where
+  abbrev four : List ℕ
+  four = getD w (at + 2) 0 ∷ getD w (at + 3) 0 ∷ getD w (at + 4) 0 ∷ getD w (at + 5) 0 ∷ []
+
+  words-four : wordsFrom w at 2 4 ≡ four
+  unfolding wordsFrom
+  words-four = refl
+
+  pub by-digest : (r : ℕ) → r ≡ orderOf four (digestWords d) → r ≡ orderOf (wordsFrom w at 2 4) (digestWords d)
+  by-digest r e = e ∙ ap (λ (l : List ℕ). orderOf l (digestWords d)) (sym words-four)
+
+pub differs : (x y v : ℕ) (xs ys : List ℕ) → x ≡ v → (x ≡ y → ⊥) → orderOf (x ∷ []) (y ∷ []) ≡ orderOf (v ∷ xs) (y ∷ ys)
+differs x y v xs ys e n = sym (order-differs x y xs ys n) ∙ ap (λ (z : ℕ). orderOf (z ∷ xs) (y ∷ ys)) e
+
+pub agrees : (x y v : ℕ) (xs ys : List ℕ) → x ≡ v → x ≡ y → orderOf xs ys ≡ orderOf (v ∷ xs) (y ∷ ys)
+agrees x y v xs ys e q = sym (order-same v y xs ys (sym e ∙ q))

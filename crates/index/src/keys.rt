@@ -1,0 +1,149 @@
+// Two rows compared by their keys: by round, then authority, then the words behind them.
+use types::BlockDigest;
+use types::BlockReference;
+use types::words::word;
+ghost use mathlib.Core.Path.{_≡_};
+ghost use mathlib.Core.List.{[], _∷_};
+ghost use Prim.Native.Nat.{_+_, _-_, _*_, _≤_, _<_};
+ghost use lib.Dec.{eqb};
+ghost use lib.ListN.{getD};
+ghost use Rattle.types.specs.Limits.{blockWords, referenceWords};
+ghost use Rattle.types.specs.References.{orderOf, digestWords, keyOf};
+ghost use Rattle.index.specs.Keys.{wordsFrom, keyAt, referenceKey, comesBefore, sharesKey};
+
+// The words of a block's row: authority, round, digest, first include, include count.
+pub const BLOCK_WORDS: usize = 8;
+
+// How two keys stand to each other.
+const LESS: u64 = 0;
+
+const EQUAL: u64 = 1;
+
+const GREATER: u64 = 2;
+
+// Word k of a row.
+fn field(rows: &[u64], width: usize, row: usize, k: usize) -> u64
+    requires { ⌜ (0 < width) × (width ≤ 8) × (k < 8) ⌝ }
+    ensures { λ r. ⌜ r ≡ getD (now (rows .entry)) (row * width + k) 0 ⌝ }
+{
+    if row < rows.len() {
+        word(rows, row * width + k)
+    } else {
+        0
+    }
+}
+
+// Two numbers compared.
+fn compare_words(x: u64, y: u64) -> u64
+    ensures { λ r. ⌜ r ≡ orderOf (x ∷ []) (y ∷ []) ⌝ }
+{
+    if x < y {
+        return LESS;
+    }
+    if y < x {
+        return GREATER;
+    }
+    EQUAL
+}
+
+// The words of two rows behind round and authority, compared.
+fn compare_more(rows: &[u64], width: usize, more: usize, a: usize, b: usize) -> u64
+    requires { ⌜ (0 < width) × (width ≤ 8) × (more ≤ 6) ⌝ }
+    ensures { λ r. ⌜ r ≡ orderOf (wordsFrom (now (rows .entry)) (a * width) 2 more) (wordsFrom (now (rows .entry)) (b * width) 2 more) ⌝ }
+{
+    let mut k = 2;
+    let mut left = more;
+    while 0 < left {
+        let x = field(rows, width, a, k);
+        let y = field(rows, width, b, k);
+        k += 1;
+        left -= 1;
+        if x != y {
+            return compare_words(x, y);
+        }
+    }
+    EQUAL
+}
+
+// Two rows compared.
+fn compare(rows: &[u64], width: usize, more: usize, a: usize, b: usize) -> u64
+    requires { ⌜ (0 < width) × (width ≤ 8) × (more ≤ 6) ⌝ }
+    ensures { λ r. ⌜ r ≡ orderOf (keyAt width more (now (rows .entry)) a) (keyAt width more (now (rows .entry)) b) ⌝ }
+{
+    let round = field(rows, width, a, 1);
+    let other_round = field(rows, width, b, 1);
+    if round != other_round {
+        return compare_words(round, other_round);
+    }
+    let authority = field(rows, width, a, 0);
+    let other_authority = field(rows, width, b, 0);
+    if authority != other_authority {
+        return compare_words(authority, other_authority);
+    }
+    compare_more(rows, width, more, a, b)
+}
+
+// The digest of a block's row and another compared.
+fn compare_digest(blocks: &[u64], row: usize, digest: BlockDigest) -> u64
+    ensures { λ r. ⌜ r ≡ orderOf (wordsFrom (now (blocks .entry)) (row * blockWords) 2 (referenceWords - 2)) (digestWords digest) ⌝ }
+{
+    let word0 = field(blocks, BLOCK_WORDS, row, 2);
+    if word0 != digest.word0 {
+        return compare_words(word0, digest.word0);
+    }
+    let word1 = field(blocks, BLOCK_WORDS, row, 3);
+    if word1 != digest.word1 {
+        return compare_words(word1, digest.word1);
+    }
+    let word2 = field(blocks, BLOCK_WORDS, row, 4);
+    if word2 != digest.word2 {
+        return compare_words(word2, digest.word2);
+    }
+    let word3 = field(blocks, BLOCK_WORDS, row, 5);
+    compare_words(word3, digest.word3)
+}
+
+// The reference of a block's row and another compared.
+fn compare_reference(blocks: &[u64], row: usize, x: BlockReference) -> u64
+    ensures { λ r. ⌜ r ≡ orderOf (referenceKey (now (blocks .entry)) row) (keyOf x) ⌝ }
+{
+    let round = field(blocks, BLOCK_WORDS, row, 1);
+    if round != x.round.0 {
+        return compare_words(round, x.round.0);
+    }
+    let authority = field(blocks, BLOCK_WORDS, row, 0);
+    if authority != x.authority.0 {
+        return compare_words(authority, x.authority.0);
+    }
+    compare_digest(blocks, row, x.digest)
+}
+
+// Whether a block's row comes before a reference.
+pub(crate) fn precedes(blocks: &[u64], row: usize, x: BlockReference) -> bool
+    ensures { λ r. ⌜ r ≡ eqb (orderOf (referenceKey (now (blocks .entry)) row) (keyOf x)) 0 ⌝ }
+{
+    compare_reference(blocks, row, x) == LESS
+}
+
+// Whether a block's row has a reference.
+pub(crate) fn has_reference(blocks: &[u64], row: usize, x: BlockReference) -> bool
+    ensures { λ r. ⌜ r ≡ eqb (orderOf (referenceKey (now (blocks .entry)) row) (keyOf x)) 1 ⌝ }
+{
+    compare_reference(blocks, row, x) == EQUAL
+}
+
+// Whether row a comes before row b.
+pub(crate) fn comes_before(rows: &[u64], width: usize, more: usize, a: usize, b: usize) -> bool
+    requires { ⌜ (0 < width) × (width ≤ 8) × (more ≤ 6) ⌝ }
+    ensures { λ r. ⌜ r ≡ comesBefore (keyAt width more (now (rows .entry))) a b ⌝ }
+{
+    compare(rows, width, more, a, b) == LESS
+}
+
+// Whether two rows have one key.
+pub(crate) fn shares_key(rows: &[u64], width: usize, more: usize, a: usize, b: usize) -> bool
+    requires { ⌜ (0 < width) × (width ≤ 8) × (more ≤ 6) ⌝ }
+    ensures { λ r. ⌜ r ≡ sharesKey (keyAt width more (now (rows .entry))) a b ⌝ }
+{
+    compare(rows, width, more, a, b) == EQUAL
+}
