@@ -1,0 +1,51 @@
+//! The port's calls against the original text, in one process, on the same DAGs. `bench/run` builds and runs it.
+//!
+//!     bench times     the table of times, and of instructions where the machine counts them
+//!     bench counts    the table of instructions under callgrind
+//!     bench stack     the stack that each call needs at the largest tables
+
+mod case;
+mod dag;
+mod meter;
+mod original;
+mod ours;
+mod report;
+mod stack;
+
+use dag::{Dag, Shape};
+use meter::Meter;
+
+const SEED: u64 = 2026;
+const SIZES: [usize; 4] = [4, 10, 50, 100];
+const BLOCKS: [usize; 3] = [1_000, 10_000, 65_536];
+
+fn main() {
+    match std::env::args().nth(1).as_deref() {
+        Some("times") => tables(&Meter::of_the_machine()),
+        Some("counts") => tables(&Meter::of_callgrind()),
+        Some("stack") => stack::print(),
+        _ => println!("bench times | counts | stack"),
+    }
+}
+
+fn tables(meter: &Meter) {
+    println!("\n## {}\n", meter.name());
+    let mut lines = vec![];
+    for size in SIZES {
+        for full in [true, false] {
+            for blocks in BLOCKS {
+                let shape = Shape { size, blocks, full };
+                match Dag::new(shape, SEED).and_then(|dag| case::measured(meter, &dag)) {
+                    Ok(measured) => lines.extend(measured),
+                    Err(why) => {
+                        println!("- left out, and larger ones with it: {shape}: {why}");
+                        break;
+                    }
+                }
+            }
+        }
+    }
+    for unit in meter.units() {
+        report::print(*unit, &lines);
+    }
+}
