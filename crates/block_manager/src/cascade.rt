@@ -36,7 +36,8 @@ fn move_row(
     let x = reference_of(waiting, row);
     let count = count_at(waiting, row);
     let list = named_by(waiting, named, row);
-    store_block(blocks, includes, stored, included, x, list);
+    let none = [0u16; 1];
+    store_block(blocks, includes, &none, false, stored, included, x, list);
     take_out(waiting, named, pending, total, row);
     Counts {
         stored: stored + 1,

@@ -2,9 +2,9 @@
 use block_store::parts::BLOCK_WORDS;
 use block_store::parts::count_at;
 use block_store::parts::first_at;
+use block_tables::indexed::row_in;
 use block_tables::parts::put_reference;
 use block_tables::parts::reference_in;
-use block_tables::parts::row_of;
 use types::BlockReference;
 use types::reference::REFERENCE_WORDS;
 use types::words::word;
@@ -19,6 +19,7 @@ ghost use Rattle.block_store.specs.Store.{fieldOf};
 ghost use Rattle.offers.specs.Exact.{firstAt};
 ghost use Rattle.block_tables.specs.Words.{refRows, rowWords, storedIn, pendingIn};
 ghost use Rattle.block_tables.specs.Edits.{cut, rebase};
+ghost use Rattle.block_tables.specs.Reading.{IndexedIf};
 ghost use Rattle.block_tables.specs.Holding.{StoredAs, PendingAs, CanStore, CanWait, CanTake, blockOf};
 
 // Writes a row.
@@ -45,7 +46,16 @@ fn put_words(w: &mut [u64], at: usize, list: &[u64])
 }
 
 // Writes, from `at` on, the rows of the references of a list.
-fn put_rows(includes: &mut [u64], at: usize, blocks: &[u64], stored: usize, list: &[u64])
+fn put_rows(
+    includes: &mut [u64],
+    at: usize,
+    blocks: &[u64],
+    order: &[u16],
+    sorted: bool,
+    stored: usize,
+    list: &[u64],
+)
+    requires { ⌜ (IndexedIf sorted (now blocks) (now order) stored) ⌝ }
     requires { ⌜ at + length (now list) / referenceWords ≤ length (now includes) ⌝ }
     ensures { λ _. ⌜ now (includes .exit) ≡ sets (now (includes .entry)) at (map (firstAt (refRows (now (blocks .entry)) 0 stored)) (refsIn (now (list .entry)))) ⌝ }
 {
@@ -53,7 +63,7 @@ fn put_rows(includes: &mut [u64], at: usize, blocks: &[u64], stored: usize, list
     let mut k = 0;
     while k < n {
         let x = reference_in(list, k);
-        let row = row_of(blocks, stored, x);
+        let row = row_in(blocks, order, sorted, stored, x);
         includes[at + k] = row as u64;
         k += 1;
     }
@@ -96,20 +106,23 @@ fn rebase(blocks: &mut [u64], from: usize, to: usize, n: usize)
     }
 }
 
-// A block, whose includes are all stored, goes into the store as its last row.
+// A block, whose includes are all stored, goes into the store as its last row; `order` has the stored rows in order if they are `sorted`.
 pub(crate) fn store_block(
     blocks: &mut [u64],
     includes: &mut [u64],
+    order: &[u16],
+    sorted: bool,
     stored: usize,
     included: usize,
     x: BlockReference,
     list: &[u64],
 )
+    requires { ⌜ (IndexedIf sorted (now blocks) (now order) stored) ⌝ }
     requires { ⌜ CanStore (length (now blocks) / blockWords) (length (now includes)) (now blocks) (now includes) stored included (now list) ⌝ }
     ensures { λ _. ⌜ StoredAs (length (now (blocks .entry)) / blockWords) (length (now (includes .entry))) (now (blocks .exit)) (now (includes .exit)) (stored + 1) (included + length (now (list .entry)) / referenceWords) (storedIn (now (blocks .entry)) (now (includes .entry)) stored ++ blockOf x (now (list .entry)) ∷ []) ⌝ }
 {
     let count = list.len() / REFERENCE_WORDS;
-    put_rows(includes, included, blocks, stored, list);
+    put_rows(includes, included, blocks, order, sorted, stored, list);
     put_row(blocks, stored, x, included, count);
 }
 

@@ -4,14 +4,17 @@ use crate::cascade::cascade;
 use crate::edit::store_block;
 use crate::edit::wait_block;
 use block_store::parts::BLOCK_WORDS;
+use block_store::sound::MAX_BLOCKS;
 use block_tables::Counts;
-use block_tables::parts::all_stored;
+use block_tables::indexed::all_in;
+use block_tables::indexed::row_in;
 use block_tables::parts::row_of;
 use block_tables::sound::all_below;
 use block_tables::sound::counts_in;
 use block_tables::sound::tables_are_sound;
 use committee::Committee;
 use committee::parts::is_sound;
+use index::build::index_references;
 use offers::Offered;
 use types::BlockReference;
 use types::MAX_INCLUDES;
@@ -25,6 +28,7 @@ ghost use Rattle.types.specs.Limits.{blockWords};
 ghost use Rattle.offers.specs.Offers.{reportedOffer, goodArgument, enter, offer};
 ghost use Rattle.block_tables.specs.Words.{tablesOf, encode};
 ghost use Rattle.block_tables.specs.Holding.{Holds, blockOf, stateIn};
+ghost use Rattle.block_tables.specs.Reading.{IndexedIf};
 ghost use Rattle.block_tables.specs.Sound.{limitsOf};
 ghost use Rattle.block_manager.specs.Call.{addBlock, tablesAfter, CanOffer, CanEnter};
 
@@ -50,11 +54,14 @@ fn enter_block(
     includes: &mut [u64],
     waiting: &mut [u64],
     named: &mut [u64],
+    order: &[u16],
+    sorted: bool,
     c: Counts,
     size: u64,
     x: BlockReference,
     list: &[u64],
 ) -> Counts
+    requires { ⌜ (IndexedIf sorted (now blocks) (now order) (c .stored)) ⌝ }
     requires { ⌜ CanEnter size (length (now blocks) / blockWords) (length (now includes)) (now blocks) (now includes) (now waiting) (now named) c x (now list) ⌝ }
     ensures { λ r. ⌜ Holds (length (now (blocks .entry)) / blockWords) (length (now (includes .entry))) (now (blocks .exit)) (now (includes .exit)) (now (waiting .exit)) (now (named .exit)) r (enter (stateIn (now (blocks .entry)) (now (includes .entry)) (now (waiting .entry)) (now (named .entry)) c) (blockOf x (now (list .entry)))) ⌝ }
 {
@@ -63,7 +70,7 @@ fn enter_block(
     let pending = c.pending;
     let total = c.named;
     let count = list.len() / REFERENCE_WORDS;
-    store_block(blocks, includes, stored, included, x, list);
+    store_block(blocks, includes, order, sorted, stored, included, x, list);
     let start = Counts {
         stored: stored + 1,
         included: included + count,
@@ -73,17 +80,20 @@ fn enter_block(
     cascade(blocks, includes, waiting, named, start)
 }
 
-// An offer to sound tables.
+// An offer to sound tables; `order` has the stored rows in order if they are `sorted`.
 fn offer_sound(
     blocks: &mut [u64],
     includes: &mut [u64],
     waiting: &mut [u64],
     named: &mut [u64],
+    order: &[u16],
+    sorted: bool,
     c: Counts,
     size: u64,
     x: BlockReference,
     list: &[u64],
 ) -> OfferAnswer
+    requires { ⌜ (IndexedIf sorted (now blocks) (now order) (c .stored)) ⌝ }
     requires { ⌜ CanOffer size (length (now blocks) / blockWords) (length (now includes)) (now blocks) (now includes) (now waiting) (now named) c (now list) ⌝ }
     ensures { λ r. ⌜ r .answer ≡ offer (limitsOf size (length (now (blocks .entry)) / blockWords) (length (now (includes .entry)))) (stateIn (now (blocks .entry)) (now (includes .entry)) (now (waiting .entry)) (now (named .entry)) c) (blockOf x (now (list .entry))) .answer ⌝ }
     ensures after { λ r. ⌜ tablesOf (now (blocks .exit)) (now (includes .exit)) (r .stored) (now (waiting .exit)) (now (named .exit)) (r .pending) ≡ encode (length (now (blocks .entry)) / blockWords) (length (now (includes .entry))) (offer (limitsOf size (length (now (blocks .entry)) / blockWords) (length (now (includes .entry)))) (stateIn (now (blocks .entry)) (now (includes .entry)) (now (waiting .entry)) (now (named .entry)) c) (blockOf x (now (list .entry))) .state) ⌝ }
@@ -100,7 +110,7 @@ fn offer_sound(
             pending,
         };
     }
-    if row_of(blocks, stored, x) < stored {
+    if row_in(blocks, order, sorted, stored, x) < stored {
         return OfferAnswer {
             answer: Offered::Known,
             stored,
@@ -128,8 +138,19 @@ fn offer_sound(
             pending,
         };
     }
-    if all_stored(blocks, stored, list) {
-        let d = enter_block(blocks, includes, waiting, named, c, size, x, list);
+    if all_in(blocks, order, sorted, stored, list) {
+        let d = enter_block(
+            blocks,
+            includes,
+            waiting,
+            named,
+            order,
+            sorted,
+            c,
+            size,
+            x,
+            list,
+        );
         let grown = d.stored - stored;
         return OfferAnswer {
             answer: Offered::Stored(grown),
@@ -143,6 +164,126 @@ fn offer_sound(
         stored,
         pending: pending + 1,
     }
+}
+
+// The same, by way of areas for at most 256 stored rows; more are not put in order.
+fn offer_256(
+    blocks: &mut [u64],
+    includes: &mut [u64],
+    waiting: &mut [u64],
+    named: &mut [u64],
+    c: Counts,
+    size: u64,
+    x: BlockReference,
+    list: &[u64],
+) -> OfferAnswer
+    requires { ⌜ CanOffer size (length (now blocks) / blockWords) (length (now includes)) (now blocks) (now includes) (now waiting) (now named) c (now list) ⌝ }
+    ensures { λ r. ⌜ r .answer ≡ offer (limitsOf size (length (now (blocks .entry)) / blockWords) (length (now (includes .entry)))) (stateIn (now (blocks .entry)) (now (includes .entry)) (now (waiting .entry)) (now (named .entry)) c) (blockOf x (now (list .entry))) .answer ⌝ }
+    ensures after { λ r. ⌜ tablesOf (now (blocks .exit)) (now (includes .exit)) (r .stored) (now (waiting .exit)) (now (named .exit)) (r .pending) ≡ encode (length (now (blocks .entry)) / blockWords) (length (now (includes .entry))) (offer (limitsOf size (length (now (blocks .entry)) / blockWords) (length (now (includes .entry)))) (stateIn (now (blocks .entry)) (now (includes .entry)) (now (waiting .entry)) (now (named .entry)) c) (blockOf x (now (list .entry))) .state) ⌝ }
+{
+    let mut order = [0u16; 256];
+    let mut work = [0u16; 256];
+    let sorted = index_references(blocks, c.stored, &mut order, &mut work);
+    offer_sound(
+        blocks,
+        includes,
+        waiting,
+        named,
+        &order,
+        sorted,
+        c,
+        size,
+        x,
+        list,
+    )
+}
+
+// The same for at most 4,096.
+fn offer_4096(
+    blocks: &mut [u64],
+    includes: &mut [u64],
+    waiting: &mut [u64],
+    named: &mut [u64],
+    c: Counts,
+    size: u64,
+    x: BlockReference,
+    list: &[u64],
+) -> OfferAnswer
+    requires { ⌜ CanOffer size (length (now blocks) / blockWords) (length (now includes)) (now blocks) (now includes) (now waiting) (now named) c (now list) ⌝ }
+    ensures { λ r. ⌜ r .answer ≡ offer (limitsOf size (length (now (blocks .entry)) / blockWords) (length (now (includes .entry)))) (stateIn (now (blocks .entry)) (now (includes .entry)) (now (waiting .entry)) (now (named .entry)) c) (blockOf x (now (list .entry))) .answer ⌝ }
+    ensures after { λ r. ⌜ tablesOf (now (blocks .exit)) (now (includes .exit)) (r .stored) (now (waiting .exit)) (now (named .exit)) (r .pending) ≡ encode (length (now (blocks .entry)) / blockWords) (length (now (includes .entry))) (offer (limitsOf size (length (now (blocks .entry)) / blockWords) (length (now (includes .entry)))) (stateIn (now (blocks .entry)) (now (includes .entry)) (now (waiting .entry)) (now (named .entry)) c) (blockOf x (now (list .entry))) .state) ⌝ }
+{
+    let mut order = [0u16; 4096];
+    let mut work = [0u16; 4096];
+    let sorted = index_references(blocks, c.stored, &mut order, &mut work);
+    offer_sound(
+        blocks,
+        includes,
+        waiting,
+        named,
+        &order,
+        sorted,
+        c,
+        size,
+        x,
+        list,
+    )
+}
+
+// The same for as many as a table has.
+fn offer_65536(
+    blocks: &mut [u64],
+    includes: &mut [u64],
+    waiting: &mut [u64],
+    named: &mut [u64],
+    c: Counts,
+    size: u64,
+    x: BlockReference,
+    list: &[u64],
+) -> OfferAnswer
+    requires { ⌜ CanOffer size (length (now blocks) / blockWords) (length (now includes)) (now blocks) (now includes) (now waiting) (now named) c (now list) ⌝ }
+    ensures { λ r. ⌜ r .answer ≡ offer (limitsOf size (length (now (blocks .entry)) / blockWords) (length (now (includes .entry)))) (stateIn (now (blocks .entry)) (now (includes .entry)) (now (waiting .entry)) (now (named .entry)) c) (blockOf x (now (list .entry))) .answer ⌝ }
+    ensures after { λ r. ⌜ tablesOf (now (blocks .exit)) (now (includes .exit)) (r .stored) (now (waiting .exit)) (now (named .exit)) (r .pending) ≡ encode (length (now (blocks .entry)) / blockWords) (length (now (includes .entry))) (offer (limitsOf size (length (now (blocks .entry)) / blockWords) (length (now (includes .entry)))) (stateIn (now (blocks .entry)) (now (includes .entry)) (now (waiting .entry)) (now (named .entry)) c) (blockOf x (now (list .entry))) .state) ⌝ }
+{
+    let mut order = [0u16; MAX_BLOCKS];
+    let mut work = [0u16; MAX_BLOCKS];
+    let sorted = index_references(blocks, c.stored, &mut order, &mut work);
+    offer_sound(
+        blocks,
+        includes,
+        waiting,
+        named,
+        &order,
+        sorted,
+        c,
+        size,
+        x,
+        list,
+    )
+}
+
+// An offer to sound tables, with the smallest areas that hold their rows.
+fn offer_sized(
+    blocks: &mut [u64],
+    includes: &mut [u64],
+    waiting: &mut [u64],
+    named: &mut [u64],
+    c: Counts,
+    size: u64,
+    x: BlockReference,
+    list: &[u64],
+) -> OfferAnswer
+    requires { ⌜ CanOffer size (length (now blocks) / blockWords) (length (now includes)) (now blocks) (now includes) (now waiting) (now named) c (now list) ⌝ }
+    ensures { λ r. ⌜ r .answer ≡ offer (limitsOf size (length (now (blocks .entry)) / blockWords) (length (now (includes .entry)))) (stateIn (now (blocks .entry)) (now (includes .entry)) (now (waiting .entry)) (now (named .entry)) c) (blockOf x (now (list .entry))) .answer ⌝ }
+    ensures after { λ r. ⌜ tablesOf (now (blocks .exit)) (now (includes .exit)) (r .stored) (now (waiting .exit)) (now (named .exit)) (r .pending) ≡ encode (length (now (blocks .entry)) / blockWords) (length (now (includes .entry))) (offer (limitsOf size (length (now (blocks .entry)) / blockWords) (length (now (includes .entry)))) (stateIn (now (blocks .entry)) (now (includes .entry)) (now (waiting .entry)) (now (named .entry)) c) (blockOf x (now (list .entry))) .state) ⌝ }
+{
+    if c.stored <= 256 {
+        return offer_256(blocks, includes, waiting, named, c, size, x, list);
+    }
+    if c.stored <= 4096 {
+        return offer_4096(blocks, includes, waiting, named, c, size, x, list);
+    }
+    offer_65536(blocks, includes, waiting, named, c, size, x, list)
 }
 
 // One block is offered: its reference, and the references that it includes, six words each. It is stored if all its includes are, with
@@ -184,5 +325,5 @@ pub fn add_block(
         };
     }
     let c = counts_in(blocks, stored, waiting, pending);
-    offer_sound(blocks, includes, waiting, named, c, size, block, list)
+    offer_sized(blocks, includes, waiting, named, c, size, block, list)
 }

@@ -4,6 +4,12 @@ use mathlib.Core.Bool.{Bool, true, cond, _&&_}
 use mathlib.Core.List.{List, [], _∷_}
 use Prim.Native.Nat.{ℕ, zero, suc, max}
 use lib.Dec.{ltb}
+use mathlib.Core.Path.{_≡_}
+use Rattle.index.specs.Keys.{referenceKey}
+use Rattle.index.specs.Search.{Indexed, foundRow}
+use Rattle.types.specs.References.{keyOf}
+use Rattle.offers.specs.Exact.{firstAt}
+use Rattle.block_tables.specs.Words.{refRows}
 use Rattle.types.specs.declared.reference.BlockReference.{BlockReference}
 use Rattle.offers.specs.Blocks.{Block, among}
 
@@ -21,3 +27,18 @@ freedRow xs r (b ∷ p) = cond (among (b .includes) r && allAmong xs (b .include
 unfoldable pub reachBelow : ℕ → List ℕ → ℕ
 reachBelow t [] = zero
 reachBelow t (row ∷ rows) = max (cond (ltb row t) (suc row) zero) (reachBelow t rows)
+
+-- ---- through an index
+
+-- the row of a reference among n: by halving where the rows are in order, else by a scan
+unfoldable pub lookedUp : Bool → List ℕ → List ℕ → ℕ → BlockReference → ℕ
+lookedUp sorted blocks order n r = cond sorted (foundRow (referenceKey blocks) order n (keyOf r)) (firstAt (refRows blocks 0 n) r)
+
+-- each of the references rs has a row among n
+unfoldable pub allFound : (BlockReference → ℕ) → ℕ → List BlockReference → Bool
+allFound row n [] = true
+allFound row n (r ∷ rs) = ltb (row r) n && allFound row n rs
+
+-- where the rows are said to be in order they are
+abbrev pub IndexedIf : Bool → List ℕ → List ℕ → ℕ → Type 0
+IndexedIf sorted blocks order n = sorted ≡ true → Indexed (referenceKey blocks) n order

@@ -1,6 +1,6 @@
 // The tables of both sides: the stored blocks with their includes, and the pending ones with theirs, as lent words.
 // No public function has a `requires`.
-mod indexed; // stored rows, looked up by halving
+pub mod indexed; // rows looked up, by halving where they are in order
 pub mod parts; // rows and references, looked up
 pub mod sound; // the test of both sides
 

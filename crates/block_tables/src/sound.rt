@@ -70,7 +70,7 @@ fn named_are_sound(
     if !all_below(size, round, list) {
         return false;
     }
-    !all_in(blocks, order, stored, list)
+    !all_in(blocks, order, true, stored, list)
 }
 
 // Whether the numbers of a pending row are within limits, its stretch begins at `start`, its reference is new, and its includes are sound.
@@ -102,7 +102,7 @@ fn row_is_sound(
     if first_at(waiting, row) != start {
         return false;
     }
-    if row_in(blocks, order, stored, reference_of(waiting, row)) < stored {
+    if row_in(blocks, order, true, stored, reference_of(waiting, row)) < stored {
         return false;
     }
     named_are_sound(

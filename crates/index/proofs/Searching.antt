@@ -16,7 +16,7 @@ use Rattle.index.specs.Places.{placeOf, inOrder, hasRoom, orderedRows, f
 use Rattle.index.specs.Search.{Indexed, middle, searchIn, rowAtEntry, foundRow}
 use Rattle.types.proofs.Below.{sum-one, any-one, any-false}
 use Rattle.types.proofs.References.{order-equal, order-turned}
-use Rattle.types.proofs.Tests.{by-test, clash, tested, lt-or-le}
+use Rattle.types.proofs.Tests.{both-left, both-right, by-test, clash, tested, lt-or-le}
 use Rattle.types.specs.Below.{sumBelow, anyBelow}
 use Rattle.types.specs.Limits.{maxBlocks}
 use Rattle.types.specs.References.{orderOf}
@@ -230,3 +230,9 @@ indexed key n room area order r d e =
 -- the answer tells whether two share one, where there is room
 pub index-says : (n rows work : ℕ) (d t : Bool) → n ≤ maxBlocks → n ≤ rows → n ≤ work → t ≡ (hasRoom n rows work && d) → (hasRoom n rows work ≡ true) × (t ≡ d)
 index-says n rows work d t a b c e = let r = room-enough n rows work a b c in (r, e ∙ rw r refl)
+
+-- a yes says that there is an index
+pub index-if : (key : ℕ → List ℕ) (n : ℕ) (room t : Bool) (area order : List ℕ) → t ≡ (room && distinctKeys key n) → order ≡ frontAfter room n (orderedRows key n) area → t ≡ true → Indexed key n order
+index-if key n room t area order et eo e =
+    let b : (room && distinctKeys key n) ≡ true = sym et ∙ e in
+    indexed key n room area order (both-left room (distinctKeys key n) b) (both-right room (distinctKeys key n) b) eo

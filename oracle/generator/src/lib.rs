@@ -3,6 +3,7 @@
 pub mod case;
 pub mod dag;
 pub mod dags;
+pub mod exhaustive;
 pub mod header;
 pub mod order;
 pub mod prng;

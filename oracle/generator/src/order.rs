@@ -4,6 +4,9 @@ use stream::{Block, Reference};
 
 use crate::prng::Prng;
 
+/// The highest round that the bits of a stream hold.
+const HIGHEST_ROUND: u64 = (1 << 40) - 1;
+
 /// The blocks in an order of arrival.
 pub fn arrival(prng: &mut Prng, mut blocks: Vec<Block>) -> Vec<Block> {
     match prng.below(10) {
@@ -79,7 +82,7 @@ pub fn spoiled(prng: &mut Prng, size: u64, mut block: Block) -> Block {
         0 => block.reference.authority = unknown,
         1 => block.includes.push(Reference { authority: unknown, round: round.saturating_sub(1), digest }),
         2 => block.includes.push(Reference { authority, round, digest: [digest[0], 7, 7, 7] }),
-        _ => block.includes.insert(0, Reference { authority, round: round + 1, digest }),
+        _ => block.includes.insert(0, Reference { authority, round: (round + 1).min(HIGHEST_ROUND), digest }),
     }
     block
 }

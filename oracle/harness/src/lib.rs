@@ -3,6 +3,7 @@
 
 pub mod budget;
 pub mod calls;
+pub mod cases;
 pub mod limits;
 pub mod offers;
 pub mod positions;

@@ -1,8 +1,8 @@
 //! The recorded cases: the oracle still answers as recorded, and together they tell every mistake apart.
 
-use std::{fs, path::PathBuf};
+use std::{fs, io, path::PathBuf};
 
-use harness::{calls, program, text::caught};
+use harness::{calls, cases, program, text::caught};
 use model::Mistake;
 
 fn folder() -> PathBuf {
@@ -60,5 +60,26 @@ fn every_mistake_is_told_apart() {
             streams.iter().any(|(bytes, output)| caught(|| model::program::run(bytes, *mistake)).as_ref() != Ok(output))
         };
         assert!(by_request || by_stream(), "{mistake:?}");
+    }
+}
+
+/// Whether the file `cases` of a program is this.
+fn has(program: &str, cases: io::Result<Vec<u8>>) -> bool {
+    let file = folder().join(format!("../../crates/{program}/data/cases"));
+    fs::read(file).expect("the program's cases") == cases.expect("the recorded cases")
+}
+
+#[test]
+fn programs_have_the_recorded_cases() {
+    assert!(has("replay", cases::recorded_calls(&folder())), "make the files again: README.md");
+    assert!(has("replay_streams", cases::recorded_streams(&folder())), "make the files again: README.md");
+}
+
+#[test]
+fn every_call_is_recorded() {
+    let requests = requests();
+    for name in calls::names() {
+        let mut named = requests.iter().map(|(request, _)| request.split(' ').next());
+        assert!(named.any(|other| other == Some(name)), "{name}");
     }
 }

@@ -23,8 +23,21 @@ pub struct Request {
 }
 
 impl Request {
-    /// Changes one argument.
+    /// The length of the longest slice or area.
+    pub fn longest(&self) -> usize {
+        let lengths = self.arguments.iter().map(|argument| match argument {
+            Argument::Number(_) => 0,
+            Argument::Area(length) => *length as usize,
+            Argument::Stakes(words) | Argument::Slice(words) => words.len(),
+        });
+        lengths.max().unwrap_or(0)
+    }
+
+    /// Changes one argument, if there is any.
     pub fn change(&mut self, prng: &mut Prng) {
+        if self.arguments.is_empty() {
+            return;
+        }
         let which = prng.below(self.arguments.len() as u64) as usize;
         match &mut self.arguments[which] {
             Argument::Number(number) => *number = changed(prng, *number),

@@ -20,12 +20,20 @@ pub fn set_and_authority(prng: &mut Prng) -> Vec<Argument> {
     arguments
 }
 
+fn any_reference(prng: &mut Prng) -> Reference {
+    let digest = std::array::from_fn(|_| prng.below(2) << prng.below(64));
+    Reference { authority: prng.below(2), round: prng.below(2), digest }
+}
+
+pub fn one_reference(prng: &mut Prng) -> Vec<Argument> {
+    reference_arguments(&any_reference(prng))
+}
+
+/// Two references, now and then the same one twice.
 pub fn two_references(prng: &mut Prng) -> Vec<Argument> {
-    let mut reference = || {
-        let digest = std::array::from_fn(|_| prng.below(2) << prng.below(64));
-        Reference { authority: prng.below(2), round: prng.below(2), digest }
-    };
-    [reference(), reference()].iter().flat_map(reference_arguments).collect()
+    let first = any_reference(prng);
+    let second = if prng.chance(30) { first } else { any_reference(prng) };
+    [first, second].iter().flat_map(reference_arguments).collect()
 }
 
 /// A slice of stakes, sound or not.
@@ -106,6 +114,11 @@ fn aggregator(prng: &mut Prng, stakes: &[u64]) -> Vec<Argument> {
     let mut arguments = words(voters).to_vec();
     arguments.push(Number(stake));
     arguments
+}
+
+pub fn votes(prng: &mut Prng) -> Vec<Argument> {
+    let stakes = any_stakes(prng);
+    aggregator(prng, &stakes)
 }
 
 pub fn vote(prng: &mut Prng) -> Vec<Argument> {

@@ -102,6 +102,16 @@ fn status(prng: &mut Prng, accepted: &Accepted, from: u64, kinds: u64) -> [u64; 
     [prng.below(accepted.setting.size()), least + prng.below(4), prng.from(2, kinds), 0]
 }
 
+/// A status of a position near 0/0.
+pub fn one_status(prng: &mut Prng) -> Vec<Argument> {
+    let words = [prng.below(3), prng.below(3), prng.from(1, 3), prng.below(3)];
+    words.map(Number).to_vec()
+}
+
+pub fn two_statuses(prng: &mut Prng) -> Vec<Argument> {
+    [one_status(prng), one_status(prng)].concat()
+}
+
 fn options(setting: &Setting) -> [Argument; 3] {
     let header = &setting.header;
     [header.wave_length, header.leaders, header.pipelined as u64].map(Number)

@@ -7,6 +7,8 @@ mod stores;
 mod tables;
 
 pub use arguments::{Argument, Request};
+pub use committees::committee_of;
+pub use tables::reference_words;
 
 use crate::prng::Prng;
 
@@ -18,8 +20,13 @@ const CALLS: &[(u64, (&str, Maker))] = &[
     (1, ("authority_set_contains", committees::set_and_authority)),
     (1, ("authority_set_count", committees::set)),
     (1, ("authority_set_next", committees::set_and_authority)),
+    (1, ("authority_set_clear", committees::set)),
     (2, ("block_reference_cmp", committees::two_references)),
+    (1, ("block_reference_equal", committees::two_references)),
+    (1, ("block_reference_parts", committees::one_reference)),
     (3, ("committee_new", committees::stakes)),
+    (1, ("committee_len", committees::committee)),
+    (1, ("committee_authorities", committees::committee)),
     (1, ("committee_get_stake", committees::committee_and_authority)),
     (1, ("committee_known_authority", committees::committee_and_authority)),
     (1, ("committee_thresholds", committees::committee)),
@@ -29,6 +36,8 @@ const CALLS: &[(u64, (&str, Maker))] = &[
     (2, ("committee_get_total_stake", committees::committee_and_set)),
     (1, ("committee_elect_leader", committees::committee_and_number)),
     (5, ("aggregator_add", committees::vote)),
+    (1, ("aggregator_clear", committees::votes)),
+    (1, ("aggregator_voters", committees::votes)),
     (4, ("threshold_clock_valid", committees::validity)),
     (1, ("clock_new", committees::clock_round)),
     (5, ("clock_add_block", committees::clock_and_block)),
@@ -48,6 +57,10 @@ const CALLS: &[(u64, (&str, Maker))] = &[
     (6, ("linked", stores::with_two_rows)),
     (10, ("add_block", stores::offer)),
     (5, ("missing_blocks", stores::missing)),
+    (1, ("leader_status", committers::one_status)),
+    (1, ("leader_status_into_decided_block", committers::one_status)),
+    (2, ("leader_status_cmp", committers::two_statuses)),
+    (1, ("base_default_options", |_| vec![])),
     (2, ("base_elect_leader", committers::election)),
     (8, ("try_direct_decide", committers::direct)),
     (8, ("try_indirect_decide", committers::indirect)),
@@ -55,6 +68,9 @@ const CALLS: &[(u64, (&str, Maker))] = &[
     (12, ("try_commit", committers::commit)),
     (6, ("handle_commit", committers::linearize)),
 ];
+
+/// The most entries of a slice or an area. Programs that answer requests may count on it.
+const LONGEST: usize = 8192;
 
 /// The `index`-th request of a run with this seed.
 pub fn request(seed: u64, index: u64) -> Request {
@@ -67,5 +83,6 @@ pub fn request(seed: u64, index: u64) -> Request {
             request.change(prng);
         }
     }
+    assert!(request.longest() <= LONGEST, "{request}");
     request
 }

@@ -55,6 +55,16 @@ pub fn new(request: &mut Request) -> Answer {
     Ok(values)
 }
 
+pub fn len(request: &mut Request) -> Answer {
+    Ok(vec![committee(request)?.len() as u64])
+}
+
+/// The first authority, and one past the last.
+pub fn authorities(request: &mut Request) -> Answer {
+    let authorities = committee(request)?.authorities();
+    Ok(vec![authorities.start, authorities.end])
+}
+
 pub fn get_stake(request: &mut Request) -> Answer {
     let committee = committee(request)?;
     let stake = committee.get_stake(request.number());
@@ -134,6 +144,26 @@ fn added<TH: CommitteeThreshold>((set, stake): (AuthoritySet, u64), authority: u
     let mut values = vec![met as u64];
     put_aggregator(&mut values, &aggregator);
     values
+}
+
+/// The voters and stake of a request, sound or not.
+fn aggregator(request: &mut Request) -> StakeAggregator<QuorumThreshold> {
+    let set = authority_set(request.voters());
+    access::aggregator(set, request.number())
+}
+
+/// A new aggregator, then the one given after it was cleared.
+pub fn clear(request: &mut Request) -> Answer {
+    let mut cleared = aggregator(request);
+    cleared.clear();
+    let mut values = vec![];
+    put_aggregator(&mut values, &StakeAggregator::<QuorumThreshold>::new());
+    put_aggregator(&mut values, &cleared);
+    Ok(values)
+}
+
+pub fn voters(request: &mut Request) -> Answer {
+    Ok(words_of(aggregator(request).voters()).to_vec())
 }
 
 /// The two words of the voters, and their stake.

@@ -60,6 +60,12 @@ fn stored(request: &mut Request, committee: &Committee) -> Result<Stored, Refusa
     Ok(Stored::new(blocks, NOBODY))
 }
 
+/// The options of a base committer that is given none.
+pub fn default_options(_: &mut Request) -> Answer {
+    let options = BaseCommitterOptions::default();
+    Ok(vec![options.wave_length, options.leader_offset, options.round_offset, options.pipelined as u64])
+}
+
 pub fn elect_leader(request: &mut Request) -> Answer {
     let committee = committee(request)?;
     let options = base_options(request)?;

@@ -5,6 +5,7 @@ mod committer;
 mod linearizer;
 mod manager;
 mod request;
+mod status;
 mod store;
 mod tables;
 mod threshold_clock;
@@ -39,8 +40,13 @@ const CALLS: &[(&str, &[u64], Call)] = &[
     ("authority_set_contains", &[], types::contains),
     ("authority_set_count", &[], types::count),
     ("authority_set_next", &[], types::next),
+    ("authority_set_clear", &[], types::clear),
     ("block_reference_cmp", &[], types::compare),
+    ("block_reference_equal", &[], types::equal),
+    ("block_reference_parts", &[], types::parts),
     ("committee_new", &[1], committee::new),
+    ("committee_len", &[1], committee::len),
+    ("committee_authorities", &[1], committee::authorities),
     ("committee_get_stake", &[1], committee::get_stake),
     ("committee_known_authority", &[1], committee::known_authority),
     ("committee_thresholds", &[1], committee::thresholds),
@@ -50,6 +56,8 @@ const CALLS: &[(&str, &[u64], Call)] = &[
     ("committee_get_total_stake", &[1, 4], committee::get_total_stake),
     ("committee_elect_leader", &[1], committee::elect_leader),
     ("aggregator_add", &[1, 3, 4], committee::add),
+    ("aggregator_clear", &[], committee::clear),
+    ("aggregator_voters", &[], committee::voters),
     ("threshold_clock_valid", &[1, 3, 4], threshold_clock::valid),
     ("clock_new", &[4], threshold_clock::new),
     ("clock_add_block", &[1, 3, 4], threshold_clock::add_block),
@@ -69,6 +77,10 @@ const CALLS: &[(&str, &[u64], Call)] = &[
     ("linked", &[3, 4, 8], store::linked),
     ("add_block", &[1, 3, 4, 5], manager::add_block),
     ("missing_blocks", &[1, 3, 4, 8], manager::missing_blocks),
+    ("leader_status", &[], status::read),
+    ("leader_status_into_decided_block", &[4], status::into_decided_block),
+    ("leader_status_cmp", &[], status::compare),
+    ("base_default_options", &[], committer::default_options),
     ("base_elect_leader", &[1, 2, 4], committer::elect_leader),
     ("try_direct_decide", &[1, 2, 3, 4, 7], committer::try_direct_decide),
     ("try_indirect_decide", &[1, 2, 3, 4, 8, 7], committer::try_indirect_decide),
@@ -76,6 +88,17 @@ const CALLS: &[(&str, &[u64], Call)] = &[
     ("try_commit", &[1, 2, 3, 4, 8, 7, 5], committer::try_commit),
     ("handle_commit", &[3, 4, 8, 6], linearizer::handle_commit),
 ];
+
+/// The names of all calls, in the order of CALLS.md.
+pub fn names() -> impl Iterator<Item = &'static str> {
+    CALLS.iter().map(|(name, _, _)| *name)
+}
+
+/// The number of a call: its place in that order, from 1 on.
+pub fn number(name: &str) -> u64 {
+    let place = names().position(|other| other == name);
+    place.unwrap_or_else(|| panic!("no call of this name: {name}")) as u64 + 1
+}
 
 /// The response to one request line.
 pub fn respond(line: &str) -> String {

@@ -1,5 +1,7 @@
 //! Sets, the committee, the aggregator and the clock.
 
+use stream::Reference;
+
 use super::{
     demand,
     line::{members, reference, set_words, Line},
@@ -7,11 +9,28 @@ use super::{
 };
 use crate::{clock::Clock, committee::Committee, Mistake};
 
-/// Calls on sets and references.
-pub fn types(line: &mut Line) -> Answer {
-    if line.name() == "block_reference_cmp" {
-        return Ok(vec![compare(line)]);
-    }
+/// Calls on references.
+pub fn references(line: &mut Line) -> Answer {
+    let a = line.reference();
+    Ok(match line.name() {
+        "block_reference_parts" => {
+            let mut position = [a.authority, a.round];
+            if line.makes(Mistake::PositionRoundFirst) {
+                position.reverse();
+            }
+            [&[a.round], &position[..], &[a.authority], &a.digest].concat()
+        }
+        "block_reference_equal" => {
+            let b = line.reference();
+            let same = a.digest == b.digest || line.makes(Mistake::EqualWithoutDigest);
+            vec![(same && (a.authority, a.round) == (b.authority, b.round)) as u64]
+        }
+        _ => vec![compare(line, a)],
+    })
+}
+
+/// Calls on sets.
+pub fn sets(line: &mut Line) -> Answer {
     let set = line.voters();
     let present = members(set);
     match line.name() {
@@ -19,7 +38,13 @@ pub fn types(line: &mut Line) -> Answer {
             Ok(vec![present.iter().filter(|authority| **authority < 64).count() as u64])
         }
         "authority_set_count" => Ok(vec![present.len() as u64]),
-        "authority_set_contains" => Ok(vec![present.contains(&line.number()) as u64]),
+        "authority_set_clear" if line.makes(Mistake::SetClearKeeps) => Ok([[0; 2], set_words(&present)].concat()),
+        "authority_set_clear" => Ok(vec![0; 4]),
+        "authority_set_contains" => {
+            let authority = line.number();
+            let asked = if line.makes(Mistake::ContainsByRest) { authority % 128 } else { authority };
+            Ok(vec![present.contains(&asked) as u64])
+        }
         "authority_set_next" => {
             let from = line.number();
             let exclusive = line.makes(Mistake::NextExclusive);
@@ -42,8 +67,8 @@ fn insert(line: &mut Line, mut present: Vec<u64>) -> Answer {
     Ok(vec![absent as u64, low, high])
 }
 
-fn compare(line: &mut Line) -> u64 {
-    let (a, b) = (line.reference(), line.reference());
+fn compare(line: &mut Line, a: Reference) -> u64 {
+    let b = line.reference();
     let (by_round, by_authority) = (a.round.cmp(&b.round), a.authority.cmp(&b.authority));
     let order = match line.mistake {
         Mistake::TwinsEqual => by_round.then(by_authority),
@@ -95,6 +120,8 @@ pub fn committee_call(line: &mut Line) -> Answer {
     let committee = committee(line)?;
     let size = committee.size();
     Ok(match line.name() {
+        "committee_len" => vec![size - u64::from(line.makes(Mistake::LenIsLast))],
+        "committee_authorities" => vec![u64::from(line.makes(Mistake::AuthoritiesFromOne)), size],
         "committee_thresholds" => {
             let more = u64::from(!line.makes(Mistake::ThresholdIsFloor));
             floors(&committee.stakes).map(|floor| floor + more).to_vec()
@@ -111,7 +138,11 @@ pub fn committee_call(line: &mut Line) -> Answer {
         "committee_is_valid" => vec![committee.is_valid(line.number().into()) as u64],
         "committee_is_quorum" => vec![committee.is_quorum(line.number().into()) as u64],
         "committee_is_non_zero" => vec![(line.number() > 0 || line.makes(Mistake::NonZeroAtZero)) as u64],
-        "committee_elect_leader" => vec![line.number() % size],
+        "committee_elect_leader" => {
+            let number = line.number();
+            let most = if line.makes(Mistake::ElectsUpToRounds) { (1 << 40) - 1 } else { u64::MAX };
+            vec![number.min(most) % size]
+        }
         _ => {
             let voters = members(line.voters());
             let known = voters.iter().all(|voter| *voter < size);
@@ -129,6 +160,17 @@ fn aggregator(line: &mut Line, committee: &Committee) -> Result<Vec<u64>, u64> {
     let sum = committee.stake_of(voters.iter().copied(), false);
     demand(known && (sum == stake || line.makes(Mistake::AggregatorStakeUntested)), BAD_TABLE)?;
     Ok(voters)
+}
+
+/// Calls on an aggregator alone, which is not tested.
+pub fn votes(line: &mut Line) -> Answer {
+    let [low, high, stake] = [(); 3].map(|_| line.number());
+    let kept = if line.makes(Mistake::AggregatorClearKeeps) { stake } else { 0 };
+    Ok(match line.name() {
+        "aggregator_clear" => vec![0, 0, 0, 0, 0, kept],
+        _ if line.makes(Mistake::VotersOfLowWord) => vec![low, 0],
+        _ => vec![low, high],
+    })
 }
 
 /// One vote at one of the three thresholds.

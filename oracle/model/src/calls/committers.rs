@@ -53,6 +53,38 @@ impl Base {
     }
 }
 
+/// Calls on statuses: authority, round, kind, row.
+pub fn leader_status(line: &mut Line) -> Answer {
+    let [authority, round, kind, row] = [(); 4].map(|_| line.number());
+    match line.name() {
+        "leader_status" => {
+            let decided = kind == 1 || (kind == 2 && !line.makes(Mistake::SkipIsUndecided));
+            Ok(vec![authority, round, decided as u64])
+        }
+        "leader_status_cmp" => {
+            let [other_authority, other_round, other_kind, _] = [(); 4].map(|_| line.number());
+            let (by_round, by_authority) = (round.cmp(&other_round), authority.cmp(&other_authority));
+            let order = match line.mistake {
+                Mistake::StatusByAuthority => by_authority.then(by_round),
+                Mistake::StatusByKind => by_round.then(by_authority).then(kind.cmp(&other_kind)),
+                _ => by_round.then(by_authority),
+            };
+            Ok(vec![(order as i8 + 1) as u64])
+        }
+        _ => {
+            let decided = kind == 1 || kind == 2 || line.makes(Mistake::UndecidedHasNoBlock);
+            demand(decided, BAD_ARGUMENT)?;
+            Ok(if kind == 1 { vec![1, row] } else { vec![0, 0] })
+        }
+    }
+}
+
+/// Wave length, leader offset, round offset and pipelined, where none are given.
+pub fn default_options(line: &Line) -> Vec<u64> {
+    let wave_length = if line.makes(Mistake::DefaultWaveFour) { 4 } else { 5 };
+    vec![wave_length, 0, 0, 1]
+}
+
 pub fn elect_leader(line: &mut Line) -> Answer {
     let committee = committee(line)?;
     let base = Base::read(line)?;

@@ -24,14 +24,18 @@ type Answer = Result<Vec<u64>, u64>;
 pub fn respond(line: &str, mistake: Mistake) -> String {
     let line = &mut Line::new(line, mistake);
     let answer = match line.name() {
-        name if name.starts_with("authority_set_") || name == "block_reference_cmp" => committees::types(line),
+        name if name.starts_with("authority_set_") => committees::sets(line),
+        name if name.starts_with("block_reference_") => committees::references(line),
         name if name.starts_with("committee_") => committees::committee_call(line),
         "aggregator_add" => committees::add(line),
+        "aggregator_clear" | "aggregator_voters" => committees::votes(line),
         "threshold_clock_valid" => committees::valid(line),
         "clock_new" => committees::clock_new(line),
         "clock_add_block" => committees::clock_add_block(line),
         "add_block" => stores::add_block(line),
         "missing_blocks" => stores::missing_blocks(line),
+        name if name.starts_with("leader_status") => committers::leader_status(line),
+        "base_default_options" => Ok(committers::default_options(line)),
         "base_elect_leader" => committers::elect_leader(line),
         "try_direct_decide" => committers::try_direct_decide(line),
         "try_indirect_decide" => committers::try_indirect_decide(line),

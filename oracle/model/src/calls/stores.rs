@@ -75,8 +75,9 @@ pub fn query(line: &mut Line) -> Answer {
             Ok(if line.name() == "get_block" { vec![found, row.unwrap_or(0) as u64] } else { vec![found] })
         }
         "block_exists_at_authority_round" => {
-            let wanted = (authority(line)?, round(line)?);
-            Ok(vec![references().any(|r| (r.authority, r.round) == wanted) as u64])
+            let (authority, round) = (authority(line)?, round(line)?);
+            let by = |r: &Reference| r.authority == authority || line.makes(Mistake::ExistsByAnybody);
+            Ok(vec![references().any(|r| r.round == round && by(&r)) as u64])
         }
         "all_blocks_exists_at_authority_round" => {
             let authorities = line.slice();
@@ -91,8 +92,9 @@ pub fn query(line: &mut Line) -> Answer {
             listed(line, chosen(blocks, |r| r.round == round), blocks.len())
         }
         "get_blocks_at_authority_round" => {
-            let wanted = (authority(line)?, round(line)?);
-            listed(line, chosen(blocks, |r| (r.authority, r.round) == wanted), blocks.len())
+            let (authority, round) = (authority(line)?, round(line)?);
+            let anybody = line.makes(Mistake::BlocksByAnybody);
+            listed(line, chosen(blocks, |r| r.round == round && (r.authority == authority || anybody)), blocks.len())
         }
         "get_own_blocks" | "get_others_blocks" => above(line, blocks),
         "last_own_block_ref" => {
@@ -111,6 +113,7 @@ pub fn query(line: &mut Line) -> Answer {
             Ok(vec![last.unwrap_or(0)])
         }
         "len_expensive" => Ok(vec![blocks.len() as u64]),
+        "highest_round" if line.makes(Mistake::HighestIsLast) => Ok(vec![references().last().map_or(0, |r| r.round)]),
         "highest_round" => Ok(vec![references().map(|r| r.round).max().unwrap_or(0)]),
         "includes" => {
             let row = row(line, blocks)?;

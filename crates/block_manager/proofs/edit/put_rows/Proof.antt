@@ -6,6 +6,7 @@ use lib.Seq.{sets}
 use mathlib.Core.List.{map}
 use mathlib.Core.Path.{_≡_, sym, ap, _∙_, refl}
 use native.Mathlib.Omega.{arith}
+use Rattle.block_tables.proofs.Lookups.{looked-up}
 use Rattle.block_tables.proofs.Loops.{rows-next, rows-end}
 use Rattle.block_tables.specs.Words.{refRows}
 use Rattle.offers.specs.Exact.{firstAt}
@@ -14,31 +15,31 @@ use Rattle.block_manager.proofs.edit.put_rows.Statement.{statement}
 use Rattle.block_manager.proofs.edit.put_rows.Tie as tie
 
 abbrev Inv-loop : tie.InvT-loop
-Inv-loop includes₀ at blocks stored list n k₀ includes k = (k ≤ n) × (n ≡ length list / 6) × (length includes ≡ length includes₀) × (sets includes (at + k) (map (firstAt (refRows blocks 0 stored)) (refsIn (drop (k * 6) list))) ≡ sets includes₀ at (map (firstAt (refRows blocks 0 stored)) (refsIn list)))
+Inv-loop includes₀ at blocks order sorted stored list n k₀ includes k = (k ≤ n) × (n ≡ length list / 6) × (length includes ≡ length includes₀) × (sets includes (at + k) (map (firstAt (refRows blocks 0 stored)) (refsIn (drop (k * 6) list))) ≡ sets includes₀ at (map (firstAt (refRows blocks 0 stored)) (refsIn list)))
 
 abbrev μ-loop : tie.MeasureT-loop
-μ-loop includes₀ at blocks stored list n k₀ includes k = n - k
+μ-loop includes₀ at blocks order sorted stored list n k₀ includes k = n - k
 
 loop-holds : tie.Need-loop-holds Inv-loop μ-loop
 loop-holds c =
-    let a = c .before .before .before .args in
+    let a = c .before .before .before .before .args in
     let z : a .at + 0 ≡ a .at = omega arith in
     (omega arith, refl, refl, ap (λ j. sets (a .includes .now) j (map (firstAt (refRows (a .blocks .now) 0 (a .stored))) (refsIn (a .list .now)))) z)
 
 reference-in-requires : tie.Need-reference-in-requires Inv-loop μ-loop
 reference-in-requires c κs = search needs
 
-row-of-requires : tie.Need-row-of-requires Inv-loop μ-loop
-row-of-requires c κs = search needs
+row-in-requires : tie.Need-row-in-requires Inv-loop μ-loop
+row-in-requires c κs = search needs
 
 add-includes : tie.Need-add-includes Inv-loop μ-loop
-add-includes c = omega (arith, c .before .before .before .before .before .before .before .pre, c .before .before .before .loop .inv .1)
+add-includes c = omega (arith, c .before .before .before .before .before .before .before .before .pre .1, c .before .before .before .loop .inv .1)
 
 mul-includes : tie.Need-mul-includes Inv-loop μ-loop
-mul-includes c = omega (arith, c .before .before .before .before .before .before .before .pre, c .before .before .before .loop .inv .1, c .before .before .before .loop .inv .2)
+mul-includes c = omega (arith, c .before .before .before .before .before .before .before .before .pre .1, c .before .before .before .loop .inv .1, c .before .before .before .loop .inv .2)
 
 slice-write-includes : tie.Need-slice-write-includes Inv-loop μ-loop
-slice-write-includes c = omega (arith, c .before .before .before .before .before .before .before .pre, c .before .before .before .loop .inv .1, c .before .before .before .loop .inv .2)
+slice-write-includes c = omega (arith, c .before .before .before .before .before .before .before .before .pre .1, c .before .before .before .loop .inv .1, c .before .before .before .loop .inv .2)
 
 add-k : tie.Need-add-k Inv-loop μ-loop
 add-k c = search needs
@@ -48,9 +49,9 @@ loop-less c = search needs
 
 loop-again : tie.Need-loop-again Inv-loop μ-loop
 loop-again c =
-    let a = c .before .before .before .before .before .before .before .args in
+    let a = c .before .before .before .before .before .before .before .before .args in
     let g = firstAt (refRows (a .blocks .now) 0 (a .stored)) in
-    let v = c .row-of .ensures ∙ ap g (c .before .reference-in .ensures) in
+    let v = c .row-in .ensures ∙ looked-up (a .sorted) (a .blocks .now) (a .order .now) (a .stored) _ (c .before .before .before .before .before .before .before .before .pre .0) ∙ ap g (c .before .reference-in .ensures) in
     (omega arith, c .before .before .before .loop .inv .1, simp length-set (c .before .before .before .loop .inv .2), ap (λ j. sets (set (c .before .before .before .loop .includes) (a .at + c .before .before .before .loop .k) j) (a .at + (c .before .before .before .loop .k + 1)) (map g (refsIn (drop ((c .before .before .before .loop .k + 1) * 6) (a .list .now))))) v ∙ sym (rows-next g (a .list .now) (c .before .before .before .loop .includes) (a .at) (c .before .before .before .loop .k) (omega (arith, c .before .before .before .loop .inv .1))) ∙ c .before .before .before .loop .inv .3)
 
 same-length : tie.Need-same-length Inv-loop μ-loop
@@ -58,7 +59,7 @@ same-length c = c .before .loop .inv .2
 
 returns : tie.Need-returns Inv-loop μ-loop
 returns c =
-    let a = c .before .before .before .before .before .args in
+    let a = c .before .before .before .before .before .before .args in
     sym (rows-end (firstAt (refRows (a .blocks .now) 0 (a .stored))) (a .list .now) (c .before .loop .includes) (a .at) (c .before .loop .k) (omega (arith, c .before .loop .inv .1))) ∙ c .before .loop .inv .3
 
 pub put-rows-spec : {M : Type 1} → statement M
@@ -69,7 +70,7 @@ put-rows-spec =
     μ-loop
     loop-holds
     reference-in-requires
-    row-of-requires
+    row-in-requires
     add-includes
     mul-includes
     slice-write-includes

@@ -18,8 +18,8 @@ same-length-2 c = search needs
 
 returns : tie.Need-returns
 returns c =
-    let a = c .before .before .before .before .before .before .before .before .before .before .before .before .args in
-    now-stored _ _ (a .blocks .now) (a .includes .now) (a .stored) (a .included) _ (a .x) (a .list .now) _ _ (c .before .before .before .before .before .before .before .before .before .before .before .before .pre .side) (c .before .before .before .before .before .before .before .before .before .before .before .before .pre .ready) (c .before .before .before .before .before .before .before .before .before .before .before .before .pre .one-more) (c .before .before .before .before .before .before .before .before .before .before .before .before .pre .some-more) (c .before .before .before .before .before .before .put-rows .ensures) (c .before .before .put-row .ensures)
+    let a = c .before .before .before .before .before .before .before .before .before .before .before .before .before .args in
+    now-stored _ _ (a .blocks .now) (a .includes .now) (a .stored) (a .included) _ (a .x) (a .list .now) _ _ (c .before .before .before .before .before .before .before .before .before .before .before .before .before .pre .1 .side) (c .before .before .before .before .before .before .before .before .before .before .before .before .before .pre .1 .ready) (c .before .before .before .before .before .before .before .before .before .before .before .before .before .pre .1 .one-more) (c .before .before .before .before .before .before .before .before .before .before .before .before .before .pre .1 .some-more) (c .before .before .before .before .before .before .put-rows .ensures) (c .before .before .put-row .ensures)
 
 pub store-block-spec : {M : Type 1} → statement M
 store-block-spec =

@@ -58,8 +58,8 @@ returns-3 c =
 counts-in-requires : tie.Need-counts-in-requires
 counts-in-requires c κs = search needs
 
-offer-sound-requires : tie.Need-offer-sound-requires
-offer-sound-requires c κs =
+offer-sized-requires : tie.Need-offer-sized-requires
+offer-sized-requires c κs =
     let a = c .before .before .before .before .before .before .before .before .before .before .before .before .before .before .before .before .before .before .before .before .before .args in
     let t : Tables = tablesOf (a .blocks .now) (a .includes .now) (a .stored) (a .waiting .now) (a .named .now) (a .pending) in
     can-offer-now (a .committee) t (a .block) (a .list .now) (sym (c .before .before .before .before .before .before .before .before .before .before .before .before .before .before .before .is-sound .ensures) ∙ not-false _ (c .before .before .before .before .before .before .before .before .before .before .before .before .before .before .if1 .left)) (sym (c .before .before .before .before .before .before .before .before .before .tables-are-sound .ensures) ∙ not-false _ (c .before .before .before .before .before .before .before .before .if2 .left)) _ (c .before .before .before .before .counts-in .ensures) (c .before .before .before .before .before .before .before .if3 .left)
@@ -80,7 +80,7 @@ returns-4 : tie.Need-returns-4
 returns-4 c =
     let a = c .before .before .before .before .before .before .before .before .before .before .before .before .before .before .before .before .before .before .before .before .before .before .before .before .before .before .before .before .before .before .args in
     let t : Tables = tablesOf (a .blocks .now) (a .includes .now) (a .stored) (a .waiting .now) (a .named .now) (a .pending) in
-    call-done (a .committee) t (a .block) (a .list .now) (sym (c .before .before .before .before .before .before .before .before .before .before .before .before .before .before .before .before .before .before .before .before .before .before .before .before .is-sound .ensures) ∙ not-false _ (c .before .before .before .before .before .before .before .before .before .before .before .before .before .before .before .before .before .before .before .before .before .before .before .if1 .left)) (sym (c .before .before .before .before .before .before .before .before .before .before .before .before .before .before .before .before .before .before .tables-are-sound .ensures) ∙ not-false _ (c .before .before .before .before .before .before .before .before .before .before .before .before .before .before .before .before .before .if2 .left)) _ (c .before .before .before .before .before .before .before .before .before .before .before .before .before .counts-in .ensures) (c .before .before .before .before .before .before .before .before .before .before .before .before .before .before .before .before .if3 .left) _ _ (c .before .before .before .before .before .before .before .before .offer-sound .ensures .0) (c .before .before .before .before .before .before .before .before .offer-sound .ensures .1)
+    call-done (a .committee) t (a .block) (a .list .now) (sym (c .before .before .before .before .before .before .before .before .before .before .before .before .before .before .before .before .before .before .before .before .before .before .before .before .is-sound .ensures) ∙ not-false _ (c .before .before .before .before .before .before .before .before .before .before .before .before .before .before .before .before .before .before .before .before .before .before .before .if1 .left)) (sym (c .before .before .before .before .before .before .before .before .before .before .before .before .before .before .before .before .before .before .tables-are-sound .ensures) ∙ not-false _ (c .before .before .before .before .before .before .before .before .before .before .before .before .before .before .before .before .before .if2 .left)) _ (c .before .before .before .before .before .before .before .before .before .before .before .before .before .counts-in .ensures) (c .before .before .before .before .before .before .before .before .before .before .before .before .before .before .before .before .if3 .left) _ _ (c .before .before .before .before .before .before .before .before .offer-sized .ensures .0) (c .before .before .before .before .before .before .before .before .offer-sized .ensures .1)
 
 pub add-block-spec : {M : Type 1} → statement M
 add-block-spec =
@@ -100,7 +100,7 @@ add-block-spec =
     same-length-8
     returns-3
     counts-in-requires
-    offer-sound-requires
+    offer-sized-requires
     same-length-9
     same-length-10
     same-length-11

@@ -5,8 +5,10 @@ use borrow.Author.Tests.{not-true, not-false}
 use lib.ListN.{length}
 use mathlib.Core.Path.{sym, _∙_}
 use Rattle.block_manager.proofs.Offering.{at-least, under, good-same, offer-bad, offer-known, offer-full, offer-stored, offer-waits, answered, known-stored, known-pending, not-known, full-rows, full-includes, not-full, stored-all, can-wait, now-waits, grown, entered}
+use Rattle.block_tables.proofs.Lookups.{looked-up, all-looked-up}
 use Rattle.block_tables.specs.Holding.{blockOf, stateIn}
 use Rattle.block_tables.specs.Sound.{limitsOf}
+use Rattle.types.specs.References.{refsIn}
 use Rattle.block_manager.proofs.offer.offer_sound.Statement.{statement}
 use Rattle.block_manager.proofs.offer.offer_sound.Tie as tie
 
@@ -15,22 +17,22 @@ good-block-requires c κs = search needs
 
 returns : tie.Need-returns
 returns c =
-    let a = c .before .before .before .before .before .before .before .args in
-    answered _ _ (a .blocks .now) (a .includes .now) (a .waiting .now) (a .named .now) (a .c) (stateIn (a .blocks .now) (a .includes .now) (a .waiting .now) (a .named .now) (a .c)) _ _ (offer-bad (limitsOf (a .size) (length (a .blocks .now) / 8) (length (a .includes .now))) (stateIn (a .blocks .now) (a .includes .now) (a .waiting .now) (a .named .now) (a .c)) (blockOf (a .x) (a .list .now)) (good-same (a .size) (length (a .blocks .now) / 8) (length (a .includes .now)) (blockOf (a .x) (a .list .now)) ∙ sym (c .before .good-block .ensures) ∙ not-true _ (c .if1 .taken))) (c .before .before .before .before .before .before .before .pre .holds)
+    let a = c .before .before .before .before .before .before .before .before .args in
+    answered _ _ (a .blocks .now) (a .includes .now) (a .waiting .now) (a .named .now) (a .c) (stateIn (a .blocks .now) (a .includes .now) (a .waiting .now) (a .named .now) (a .c)) _ _ (offer-bad (limitsOf (a .size) (length (a .blocks .now) / 8) (length (a .includes .now))) (stateIn (a .blocks .now) (a .includes .now) (a .waiting .now) (a .named .now) (a .c)) (blockOf (a .x) (a .list .now)) (good-same (a .size) (length (a .blocks .now) / 8) (length (a .includes .now)) (blockOf (a .x) (a .list .now)) ∙ sym (c .before .good-block .ensures) ∙ not-true _ (c .if1 .taken))) (c .before .before .before .before .before .before .before .before .pre .1 .holds)
 
-row-of-requires : tie.Need-row-of-requires
-row-of-requires c κs = search needs
+row-in-requires : tie.Need-row-in-requires
+row-in-requires c κs = search needs
 
 same-length : tie.Need-same-length
 same-length c = search needs
 
 returns-2 : tie.Need-returns-2
 returns-2 c =
-    let a = c .before .before .before .before .before .before .before .before .before .before .args in
-    answered _ _ (a .blocks .now) (a .includes .now) (a .waiting .now) (a .named .now) (a .c) (stateIn (a .blocks .now) (a .includes .now) (a .waiting .now) (a .named .now) (a .c)) _ _ (offer-known (limitsOf (a .size) (length (a .blocks .now) / 8) (length (a .includes .now))) (stateIn (a .blocks .now) (a .includes .now) (a .waiting .now) (a .named .now) (a .c)) (blockOf (a .x) (a .list .now)) (good-same (a .size) (length (a .blocks .now) / 8) (length (a .includes .now)) (blockOf (a .x) (a .list .now)) ∙ sym (c .before .before .before .before .good-block .ensures) ∙ not-false _ (c .before .before .before .if1 .left)) (known-stored (a .size) _ _ (a .blocks .now) (a .includes .now) (a .waiting .now) (a .named .now) (a .c) (a .x) (a .list .now) (c .before .before .before .before .before .before .before .before .before .before .pre) (under (c .before .row-of .ensures) (c .if2 .taken)))) (c .before .before .before .before .before .before .before .before .before .before .pre .holds)
+    let a = c .before .before .before .before .before .before .before .before .before .before .before .args in
+    answered _ _ (a .blocks .now) (a .includes .now) (a .waiting .now) (a .named .now) (a .c) (stateIn (a .blocks .now) (a .includes .now) (a .waiting .now) (a .named .now) (a .c)) _ _ (offer-known (limitsOf (a .size) (length (a .blocks .now) / 8) (length (a .includes .now))) (stateIn (a .blocks .now) (a .includes .now) (a .waiting .now) (a .named .now) (a .c)) (blockOf (a .x) (a .list .now)) (good-same (a .size) (length (a .blocks .now) / 8) (length (a .includes .now)) (blockOf (a .x) (a .list .now)) ∙ sym (c .before .before .before .before .good-block .ensures) ∙ not-false _ (c .before .before .before .if1 .left)) (known-stored (a .size) _ _ (a .blocks .now) (a .includes .now) (a .waiting .now) (a .named .now) (a .c) (a .x) (a .list .now) (c .before .before .before .before .before .before .before .before .before .before .before .pre .1) (under (c .before .row-in .ensures ∙ looked-up (a .sorted) (a .blocks .now) (a .order .now) (a .c .stored) (a .x) (c .before .before .before .before .before .before .before .before .before .before .before .pre .0)) (c .if2 .taken)))) (c .before .before .before .before .before .before .before .before .before .before .before .pre .1 .holds)
 
-row-of-requires-2 : tie.Need-row-of-requires-2
-row-of-requires-2 c κs = search needs
+row-of-requires : tie.Need-row-of-requires
+row-of-requires c κs = search needs
 
 same-length-2 : tie.Need-same-length-2
 same-length-2 c = search needs
@@ -40,8 +42,8 @@ same-length-3 c = search needs
 
 returns-3 : tie.Need-returns-3
 returns-3 c =
-    let a = c .before .before .before .before .before .before .before .before .before .before .before .before .before .args in
-    answered _ _ (a .blocks .now) (a .includes .now) (a .waiting .now) (a .named .now) (a .c) (stateIn (a .blocks .now) (a .includes .now) (a .waiting .now) (a .named .now) (a .c)) _ _ (offer-known (limitsOf (a .size) (length (a .blocks .now) / 8) (length (a .includes .now))) (stateIn (a .blocks .now) (a .includes .now) (a .waiting .now) (a .named .now) (a .c)) (blockOf (a .x) (a .list .now)) (good-same (a .size) (length (a .blocks .now) / 8) (length (a .includes .now)) (blockOf (a .x) (a .list .now)) ∙ sym (c .before .before .before .before .before .before .before .good-block .ensures) ∙ not-false _ (c .before .before .before .before .before .before .if1 .left)) (known-pending (a .size) _ _ (a .blocks .now) (a .includes .now) (a .waiting .now) (a .named .now) (a .c) (a .x) (a .list .now) (c .before .before .before .before .before .before .before .before .before .before .before .before .before .pre) (at-least (c .before .before .before .before .row-of .ensures) (c .before .before .before .if2 .left)) (under (c .before .row-of2 .ensures) (c .if3 .taken)))) (c .before .before .before .before .before .before .before .before .before .before .before .before .before .pre .holds)
+    let a = c .before .before .before .before .before .before .before .before .before .before .before .before .before .before .args in
+    answered _ _ (a .blocks .now) (a .includes .now) (a .waiting .now) (a .named .now) (a .c) (stateIn (a .blocks .now) (a .includes .now) (a .waiting .now) (a .named .now) (a .c)) _ _ (offer-known (limitsOf (a .size) (length (a .blocks .now) / 8) (length (a .includes .now))) (stateIn (a .blocks .now) (a .includes .now) (a .waiting .now) (a .named .now) (a .c)) (blockOf (a .x) (a .list .now)) (good-same (a .size) (length (a .blocks .now) / 8) (length (a .includes .now)) (blockOf (a .x) (a .list .now)) ∙ sym (c .before .before .before .before .before .before .before .good-block .ensures) ∙ not-false _ (c .before .before .before .before .before .before .if1 .left)) (known-pending (a .size) _ _ (a .blocks .now) (a .includes .now) (a .waiting .now) (a .named .now) (a .c) (a .x) (a .list .now) (c .before .before .before .before .before .before .before .before .before .before .before .before .before .before .pre .1) (at-least (c .before .before .before .before .row-in .ensures ∙ looked-up (a .sorted) (a .blocks .now) (a .order .now) (a .c .stored) (a .x) (c .before .before .before .before .before .before .before .before .before .before .before .before .before .before .pre .0)) (c .before .before .before .if2 .left)) (under (c .before .row-of .ensures) (c .if3 .taken)))) (c .before .before .before .before .before .before .before .before .before .before .before .before .before .before .pre .1 .holds)
 
 add-if4 : tie.Need-add-if4
 add-if4 c = search needs
@@ -54,8 +56,8 @@ same-length-5 c = search needs
 
 returns-4 : tie.Need-returns-4
 returns-4 c =
-    let a = c .before .before .before .before .before .before .before .before .before .before .before .before .before .before .args in
-    answered _ _ (a .blocks .now) (a .includes .now) (a .waiting .now) (a .named .now) (a .c) (stateIn (a .blocks .now) (a .includes .now) (a .waiting .now) (a .named .now) (a .c)) _ _ (offer-full (limitsOf (a .size) (length (a .blocks .now) / 8) (length (a .includes .now))) (stateIn (a .blocks .now) (a .includes .now) (a .waiting .now) (a .named .now) (a .c)) (blockOf (a .x) (a .list .now)) (good-same (a .size) (length (a .blocks .now) / 8) (length (a .includes .now)) (blockOf (a .x) (a .list .now)) ∙ sym (c .before .before .before .before .before .before .before .before .good-block .ensures) ∙ not-false _ (c .before .before .before .before .before .before .before .if1 .left)) (not-known (a .size) _ _ (a .blocks .now) (a .includes .now) (a .waiting .now) (a .named .now) (a .c) (a .x) (a .list .now) (c .before .before .before .before .before .before .before .before .before .before .before .before .before .before .pre) (at-least (c .before .before .before .before .before .row-of .ensures) (c .before .before .before .before .if2 .left)) (at-least (c .before .before .row-of2 .ensures) (c .before .if3 .left))) (full-rows (a .size) _ _ (a .blocks .now) (a .includes .now) (a .waiting .now) (a .named .now) (a .c) (a .x) (a .list .now) (c .before .before .before .before .before .before .before .before .before .before .before .before .before .before .pre) (c .if4 .taken))) (c .before .before .before .before .before .before .before .before .before .before .before .before .before .before .pre .holds)
+    let a = c .before .before .before .before .before .before .before .before .before .before .before .before .before .before .before .args in
+    answered _ _ (a .blocks .now) (a .includes .now) (a .waiting .now) (a .named .now) (a .c) (stateIn (a .blocks .now) (a .includes .now) (a .waiting .now) (a .named .now) (a .c)) _ _ (offer-full (limitsOf (a .size) (length (a .blocks .now) / 8) (length (a .includes .now))) (stateIn (a .blocks .now) (a .includes .now) (a .waiting .now) (a .named .now) (a .c)) (blockOf (a .x) (a .list .now)) (good-same (a .size) (length (a .blocks .now) / 8) (length (a .includes .now)) (blockOf (a .x) (a .list .now)) ∙ sym (c .before .before .before .before .before .before .before .before .good-block .ensures) ∙ not-false _ (c .before .before .before .before .before .before .before .if1 .left)) (not-known (a .size) _ _ (a .blocks .now) (a .includes .now) (a .waiting .now) (a .named .now) (a .c) (a .x) (a .list .now) (c .before .before .before .before .before .before .before .before .before .before .before .before .before .before .before .pre .1) (at-least (c .before .before .before .before .before .row-in .ensures ∙ looked-up (a .sorted) (a .blocks .now) (a .order .now) (a .c .stored) (a .x) (c .before .before .before .before .before .before .before .before .before .before .before .before .before .before .before .pre .0)) (c .before .before .before .before .if2 .left)) (at-least (c .before .before .row-of .ensures) (c .before .if3 .left))) (full-rows (a .size) _ _ (a .blocks .now) (a .includes .now) (a .waiting .now) (a .named .now) (a .c) (a .x) (a .list .now) (c .before .before .before .before .before .before .before .before .before .before .before .before .before .before .before .pre .1) (c .if4 .taken))) (c .before .before .before .before .before .before .before .before .before .before .before .before .before .before .before .pre .1 .holds)
 
 add-if5 : tie.Need-add-if5
 add-if5 c = search needs
@@ -71,21 +73,21 @@ same-length-7 c = search needs
 
 returns-5 : tie.Need-returns-5
 returns-5 c =
-    let a = c .before .before .before .before .before .before .before .before .before .before .before .before .before .before .before .args in
-    answered _ _ (a .blocks .now) (a .includes .now) (a .waiting .now) (a .named .now) (a .c) (stateIn (a .blocks .now) (a .includes .now) (a .waiting .now) (a .named .now) (a .c)) _ _ (offer-full (limitsOf (a .size) (length (a .blocks .now) / 8) (length (a .includes .now))) (stateIn (a .blocks .now) (a .includes .now) (a .waiting .now) (a .named .now) (a .c)) (blockOf (a .x) (a .list .now)) (good-same (a .size) (length (a .blocks .now) / 8) (length (a .includes .now)) (blockOf (a .x) (a .list .now)) ∙ sym (c .before .before .before .before .before .before .before .before .before .good-block .ensures) ∙ not-false _ (c .before .before .before .before .before .before .before .before .if1 .left)) (not-known (a .size) _ _ (a .blocks .now) (a .includes .now) (a .waiting .now) (a .named .now) (a .c) (a .x) (a .list .now) (c .before .before .before .before .before .before .before .before .before .before .before .before .before .before .before .pre) (at-least (c .before .before .before .before .before .before .row-of .ensures) (c .before .before .before .before .before .if2 .left)) (at-least (c .before .before .before .row-of2 .ensures) (c .before .before .if3 .left))) (full-includes (a .size) _ _ (a .blocks .now) (a .includes .now) (a .waiting .now) (a .named .now) (a .c) (a .x) (a .list .now) (c .before .before .before .before .before .before .before .before .before .before .before .before .before .before .before .pre) (c .before .if4 .left) (c .if5 .taken))) (c .before .before .before .before .before .before .before .before .before .before .before .before .before .before .before .pre .holds)
+    let a = c .before .before .before .before .before .before .before .before .before .before .before .before .before .before .before .before .args in
+    answered _ _ (a .blocks .now) (a .includes .now) (a .waiting .now) (a .named .now) (a .c) (stateIn (a .blocks .now) (a .includes .now) (a .waiting .now) (a .named .now) (a .c)) _ _ (offer-full (limitsOf (a .size) (length (a .blocks .now) / 8) (length (a .includes .now))) (stateIn (a .blocks .now) (a .includes .now) (a .waiting .now) (a .named .now) (a .c)) (blockOf (a .x) (a .list .now)) (good-same (a .size) (length (a .blocks .now) / 8) (length (a .includes .now)) (blockOf (a .x) (a .list .now)) ∙ sym (c .before .before .before .before .before .before .before .before .before .good-block .ensures) ∙ not-false _ (c .before .before .before .before .before .before .before .before .if1 .left)) (not-known (a .size) _ _ (a .blocks .now) (a .includes .now) (a .waiting .now) (a .named .now) (a .c) (a .x) (a .list .now) (c .before .before .before .before .before .before .before .before .before .before .before .before .before .before .before .before .pre .1) (at-least (c .before .before .before .before .before .before .row-in .ensures ∙ looked-up (a .sorted) (a .blocks .now) (a .order .now) (a .c .stored) (a .x) (c .before .before .before .before .before .before .before .before .before .before .before .before .before .before .before .before .pre .0)) (c .before .before .before .before .before .if2 .left)) (at-least (c .before .before .before .row-of .ensures) (c .before .before .if3 .left))) (full-includes (a .size) _ _ (a .blocks .now) (a .includes .now) (a .waiting .now) (a .named .now) (a .c) (a .x) (a .list .now) (c .before .before .before .before .before .before .before .before .before .before .before .before .before .before .before .before .pre .1) (c .before .if4 .left) (c .if5 .taken))) (c .before .before .before .before .before .before .before .before .before .before .before .before .before .before .before .before .pre .1 .holds)
 
-all-stored-requires : tie.Need-all-stored-requires
-all-stored-requires c κs = search needs
+all-in-requires : tie.Need-all-in-requires
+all-in-requires c κs = search needs
 
 enter-block-requires : tie.Need-enter-block-requires
 enter-block-requires c κs =
-    let a = c .before .before .before .before .before .before .before .before .before .before .before .before .before .before .before .before .before .before .before .before .before .before .args in
-    record { can-offer = c .before .before .before .before .before .before .before .before .before .before .before .before .before .before .before .before .before .before .before .before .before .before .pre; new = (not-known (a .size) _ _ (a .blocks .now) (a .includes .now) (a .waiting .now) (a .named .now) (a .c) (a .x) (a .list .now) (c .before .before .before .before .before .before .before .before .before .before .before .before .before .before .before .before .before .before .before .before .before .before .pre) (at-least (c .before .before .before .before .before .before .before .before .before .before .before .before .before .row-of .ensures) (c .before .before .before .before .before .before .before .before .before .before .before .before .if2 .left)) (at-least (c .before .before .before .before .before .before .before .before .before .before .row-of2 .ensures) (c .before .before .before .before .before .before .before .before .before .if3 .left))); ready = (stored-all (a .size) _ _ (a .blocks .now) (a .includes .now) (a .waiting .now) (a .named .now) (a .c) (a .x) (a .list .now) (c .before .before .before .before .before .before .before .before .before .before .before .before .before .before .before .before .before .before .before .before .before .before .pre) ∙ sym (c .before .before .before .before .before .all-stored .ensures) ∙ c .before .before .before .before .if6 .taken); one-more = c .before .before .before .before .before .before .before .before .if4 .left; some-more = c .before .before .before .before .before .before .before .if5 .left }
+    let a = c .before .before .before .before .before .before .before .before .before .before .before .before .before .before .before .before .before .before .before .before .before .before .before .args in
+    (c .before .before .before .before .before .before .before .before .before .before .before .before .before .before .before .before .before .before .before .before .before .before .before .pre .0, record { can-offer = c .before .before .before .before .before .before .before .before .before .before .before .before .before .before .before .before .before .before .before .before .before .before .before .pre .1; new = (not-known (a .size) _ _ (a .blocks .now) (a .includes .now) (a .waiting .now) (a .named .now) (a .c) (a .x) (a .list .now) (c .before .before .before .before .before .before .before .before .before .before .before .before .before .before .before .before .before .before .before .before .before .before .before .pre .1) (at-least (c .before .before .before .before .before .before .before .before .before .before .before .before .before .row-in .ensures ∙ looked-up (a .sorted) (a .blocks .now) (a .order .now) (a .c .stored) (a .x) (c .before .before .before .before .before .before .before .before .before .before .before .before .before .before .before .before .before .before .before .before .before .before .before .pre .0)) (c .before .before .before .before .before .before .before .before .before .before .before .before .if2 .left)) (at-least (c .before .before .before .before .before .before .before .before .before .before .row-of .ensures) (c .before .before .before .before .before .before .before .before .before .if3 .left))); ready = (stored-all (a .size) _ _ (a .blocks .now) (a .includes .now) (a .waiting .now) (a .named .now) (a .c) (a .x) (a .list .now) (c .before .before .before .before .before .before .before .before .before .before .before .before .before .before .before .before .before .before .before .before .before .before .before .pre .1) ∙ sym (c .before .before .before .before .before .all-in .ensures ∙ all-looked-up (a .sorted) (a .blocks .now) (a .order .now) (a .c .stored) (refsIn (a .list .now)) (c .before .before .before .before .before .before .before .before .before .before .before .before .before .before .before .before .before .before .before .before .before .before .before .pre .0)) ∙ c .before .before .before .before .if6 .taken); one-more = c .before .before .before .before .before .before .before .before .if4 .left; some-more = c .before .before .before .before .before .before .before .if5 .left })
 
 sub-grown : tie.Need-sub-grown
 sub-grown c =
-    let a = c .before .before .before .before .before .before .before .before .before .before .before .before .before .before .before .before .before .before .before .before .before .before .before .before .before .before .before .before .before .before .before .before .args in
-    grown (a .size) _ _ (a .blocks .now) (a .includes .now) (a .waiting .now) (a .named .now) (a .c) (a .x) (a .list .now) (c .before .before .before .before .before .before .before .before .before .before .before .before .before .before .before .before .before .before .before .before .before .before .before .before .before .before .before .before .before .before .before .before .pre) _ _ _ _ (c .before .before .before .before .before .before .before .before .before .enter-block .result) (c .before .before .before .before .before .before .before .before .before .enter-block .ensures)
+    let a = c .before .before .before .before .before .before .before .before .before .before .before .before .before .before .before .before .before .before .before .before .before .before .before .before .before .before .before .before .before .before .before .before .before .args in
+    grown (a .size) _ _ (a .blocks .now) (a .includes .now) (a .waiting .now) (a .named .now) (a .c) (a .x) (a .list .now) (c .before .before .before .before .before .before .before .before .before .before .before .before .before .before .before .before .before .before .before .before .before .before .before .before .before .before .before .before .before .before .before .before .before .pre .1) _ _ _ _ (c .before .before .before .before .before .before .before .before .before .enter-block .result) (c .before .before .before .before .before .before .before .before .before .enter-block .ensures)
 
 same-length-8 : tie.Need-same-length-8
 same-length-8 c = search needs
@@ -101,16 +103,16 @@ same-length-11 c = search needs
 
 returns-6 : tie.Need-returns-6
 returns-6 c =
-    let a = c .before .before .before .before .before .before .before .before .before .before .before .before .before .before .before .before .before .before .before .before .before .before .before .before .before .before .before .before .before .before .before .before .args in
-    entered (a .size) _ _ (a .blocks .now) (a .includes .now) (a .waiting .now) (a .named .now) (a .c) (a .x) (a .list .now) (c .before .before .before .before .before .before .before .before .before .before .before .before .before .before .before .before .before .before .before .before .before .before .before .before .before .before .before .before .before .before .before .before .pre) _ _ _ _ (c .before .before .before .before .before .before .before .before .before .enter-block .result) (c .before .before .before .before .before .before .before .before .before .enter-block .ensures) (offer-stored (limitsOf (a .size) (length (a .blocks .now) / 8) (length (a .includes .now))) (stateIn (a .blocks .now) (a .includes .now) (a .waiting .now) (a .named .now) (a .c)) (blockOf (a .x) (a .list .now)) (good-same (a .size) (length (a .blocks .now) / 8) (length (a .includes .now)) (blockOf (a .x) (a .list .now)) ∙ sym (c .before .before .before .before .before .before .before .before .before .before .before .before .before .before .before .before .before .before .before .before .before .before .before .before .before .before .good-block .ensures) ∙ not-false _ (c .before .before .before .before .before .before .before .before .before .before .before .before .before .before .before .before .before .before .before .before .before .before .before .before .before .if1 .left)) (not-known (a .size) _ _ (a .blocks .now) (a .includes .now) (a .waiting .now) (a .named .now) (a .c) (a .x) (a .list .now) (c .before .before .before .before .before .before .before .before .before .before .before .before .before .before .before .before .before .before .before .before .before .before .before .before .before .before .before .before .before .before .before .before .pre) (at-least (c .before .before .before .before .before .before .before .before .before .before .before .before .before .before .before .before .before .before .before .before .before .before .before .row-of .ensures) (c .before .before .before .before .before .before .before .before .before .before .before .before .before .before .before .before .before .before .before .before .before .before .if2 .left)) (at-least (c .before .before .before .before .before .before .before .before .before .before .before .before .before .before .before .before .before .before .before .before .row-of2 .ensures) (c .before .before .before .before .before .before .before .before .before .before .before .before .before .before .before .before .before .before .before .if3 .left))) (not-full (a .size) _ _ (a .blocks .now) (a .includes .now) (a .waiting .now) (a .named .now) (a .c) (a .x) (a .list .now) (c .before .before .before .before .before .before .before .before .before .before .before .before .before .before .before .before .before .before .before .before .before .before .before .before .before .before .before .before .before .before .before .before .pre) (c .before .before .before .before .before .before .before .before .before .before .before .before .before .before .before .before .before .before .if4 .left) (c .before .before .before .before .before .before .before .before .before .before .before .before .before .before .before .before .before .if5 .left)) (stored-all (a .size) _ _ (a .blocks .now) (a .includes .now) (a .waiting .now) (a .named .now) (a .c) (a .x) (a .list .now) (c .before .before .before .before .before .before .before .before .before .before .before .before .before .before .before .before .before .before .before .before .before .before .before .before .before .before .before .before .before .before .before .before .pre) ∙ sym (c .before .before .before .before .before .before .before .before .before .before .before .before .before .before .before .all-stored .ensures) ∙ c .before .before .before .before .before .before .before .before .before .before .before .before .before .before .if6 .taken))
+    let a = c .before .before .before .before .before .before .before .before .before .before .before .before .before .before .before .before .before .before .before .before .before .before .before .before .before .before .before .before .before .before .before .before .before .args in
+    entered (a .size) _ _ (a .blocks .now) (a .includes .now) (a .waiting .now) (a .named .now) (a .c) (a .x) (a .list .now) (c .before .before .before .before .before .before .before .before .before .before .before .before .before .before .before .before .before .before .before .before .before .before .before .before .before .before .before .before .before .before .before .before .before .pre .1) _ _ _ _ (c .before .before .before .before .before .before .before .before .before .enter-block .result) (c .before .before .before .before .before .before .before .before .before .enter-block .ensures) (offer-stored (limitsOf (a .size) (length (a .blocks .now) / 8) (length (a .includes .now))) (stateIn (a .blocks .now) (a .includes .now) (a .waiting .now) (a .named .now) (a .c)) (blockOf (a .x) (a .list .now)) (good-same (a .size) (length (a .blocks .now) / 8) (length (a .includes .now)) (blockOf (a .x) (a .list .now)) ∙ sym (c .before .before .before .before .before .before .before .before .before .before .before .before .before .before .before .before .before .before .before .before .before .before .before .before .before .before .good-block .ensures) ∙ not-false _ (c .before .before .before .before .before .before .before .before .before .before .before .before .before .before .before .before .before .before .before .before .before .before .before .before .before .if1 .left)) (not-known (a .size) _ _ (a .blocks .now) (a .includes .now) (a .waiting .now) (a .named .now) (a .c) (a .x) (a .list .now) (c .before .before .before .before .before .before .before .before .before .before .before .before .before .before .before .before .before .before .before .before .before .before .before .before .before .before .before .before .before .before .before .before .before .pre .1) (at-least (c .before .before .before .before .before .before .before .before .before .before .before .before .before .before .before .before .before .before .before .before .before .before .before .row-in .ensures ∙ looked-up (a .sorted) (a .blocks .now) (a .order .now) (a .c .stored) (a .x) (c .before .before .before .before .before .before .before .before .before .before .before .before .before .before .before .before .before .before .before .before .before .before .before .before .before .before .before .before .before .before .before .before .before .pre .0)) (c .before .before .before .before .before .before .before .before .before .before .before .before .before .before .before .before .before .before .before .before .before .before .if2 .left)) (at-least (c .before .before .before .before .before .before .before .before .before .before .before .before .before .before .before .before .before .before .before .before .row-of .ensures) (c .before .before .before .before .before .before .before .before .before .before .before .before .before .before .before .before .before .before .before .if3 .left))) (not-full (a .size) _ _ (a .blocks .now) (a .includes .now) (a .waiting .now) (a .named .now) (a .c) (a .x) (a .list .now) (c .before .before .before .before .before .before .before .before .before .before .before .before .before .before .before .before .before .before .before .before .before .before .before .before .before .before .before .before .before .before .before .before .before .pre .1) (c .before .before .before .before .before .before .before .before .before .before .before .before .before .before .before .before .before .before .if4 .left) (c .before .before .before .before .before .before .before .before .before .before .before .before .before .before .before .before .before .if5 .left)) (stored-all (a .size) _ _ (a .blocks .now) (a .includes .now) (a .waiting .now) (a .named .now) (a .c) (a .x) (a .list .now) (c .before .before .before .before .before .before .before .before .before .before .before .before .before .before .before .before .before .before .before .before .before .before .before .before .before .before .before .before .before .before .before .before .before .pre .1) ∙ sym (c .before .before .before .before .before .before .before .before .before .before .before .before .before .before .before .all-in .ensures ∙ all-looked-up (a .sorted) (a .blocks .now) (a .order .now) (a .c .stored) (refsIn (a .list .now)) (c .before .before .before .before .before .before .before .before .before .before .before .before .before .before .before .before .before .before .before .before .before .before .before .before .before .before .before .before .before .before .before .before .before .pre .0)) ∙ c .before .before .before .before .before .before .before .before .before .before .before .before .before .before .if6 .taken))
 
 wait-block-requires : tie.Need-wait-block-requires
 wait-block-requires c κs =
-    let a = c .before .before .before .before .before .before .before .before .before .before .before .before .before .before .before .before .before .before .before .before .args in
-    can-wait (a .size) _ _ (a .blocks .now) (a .includes .now) (a .waiting .now) (a .named .now) (a .c) (a .x) (a .list .now) (c .before .before .before .before .before .before .before .before .before .before .before .before .before .before .before .before .before .before .before .before .pre) (c .before .before .before .before .before .before .if4 .left) (c .before .before .before .before .before .if5 .left)
+    let a = c .before .before .before .before .before .before .before .before .before .before .before .before .before .before .before .before .before .before .before .before .before .args in
+    can-wait (a .size) _ _ (a .blocks .now) (a .includes .now) (a .waiting .now) (a .named .now) (a .c) (a .x) (a .list .now) (c .before .before .before .before .before .before .before .before .before .before .before .before .before .before .before .before .before .before .before .before .before .pre .1) (c .before .before .before .before .before .before .if4 .left) (c .before .before .before .before .before .if5 .left)
 
-add-t16 : tie.Need-add-t16
-add-t16 c = search needs
+add-t18 : tie.Need-add-t18
+add-t18 c = search needs
 
 same-length-12 : tie.Need-same-length-12
 same-length-12 c = search needs
@@ -123,8 +125,8 @@ same-length-14 c = search needs
 
 returns-7 : tie.Need-returns-7
 returns-7 c =
-    let a = c .before .before .before .before .before .before .before .before .before .before .before .before .before .before .before .before .before .before .before .before .before .before .before .before .before .args in
-    answered _ _ (a .blocks .now) (a .includes .now) _ _ (record { stored = a .c .stored; included = a .c .included; pending = a .c .pending + 1; named = a .c .named + length (a .list .now) / 6 }) _ _ _ (offer-waits (limitsOf (a .size) (length (a .blocks .now) / 8) (length (a .includes .now))) (stateIn (a .blocks .now) (a .includes .now) (a .waiting .now) (a .named .now) (a .c)) (blockOf (a .x) (a .list .now)) (good-same (a .size) (length (a .blocks .now) / 8) (length (a .includes .now)) (blockOf (a .x) (a .list .now)) ∙ sym (c .before .before .before .before .before .before .before .before .before .before .before .before .before .before .before .before .before .before .before .good-block .ensures) ∙ not-false _ (c .before .before .before .before .before .before .before .before .before .before .before .before .before .before .before .before .before .before .if1 .left)) (not-known (a .size) _ _ (a .blocks .now) (a .includes .now) (a .waiting .now) (a .named .now) (a .c) (a .x) (a .list .now) (c .before .before .before .before .before .before .before .before .before .before .before .before .before .before .before .before .before .before .before .before .before .before .before .before .before .pre) (at-least (c .before .before .before .before .before .before .before .before .before .before .before .before .before .before .before .before .row-of .ensures) (c .before .before .before .before .before .before .before .before .before .before .before .before .before .before .before .if2 .left)) (at-least (c .before .before .before .before .before .before .before .before .before .before .before .before .before .row-of2 .ensures) (c .before .before .before .before .before .before .before .before .before .before .before .before .if3 .left))) (not-full (a .size) _ _ (a .blocks .now) (a .includes .now) (a .waiting .now) (a .named .now) (a .c) (a .x) (a .list .now) (c .before .before .before .before .before .before .before .before .before .before .before .before .before .before .before .before .before .before .before .before .before .before .before .before .before .pre) (c .before .before .before .before .before .before .before .before .before .before .before .if4 .left) (c .before .before .before .before .before .before .before .before .before .before .if5 .left)) (stored-all (a .size) _ _ (a .blocks .now) (a .includes .now) (a .waiting .now) (a .named .now) (a .c) (a .x) (a .list .now) (c .before .before .before .before .before .before .before .before .before .before .before .before .before .before .before .before .before .before .before .before .before .before .before .before .before .pre) ∙ sym (c .before .before .before .before .before .before .before .before .all-stored .ensures) ∙ c .before .before .before .before .before .before .before .if6 .left)) (now-waits (a .size) _ _ (a .blocks .now) (a .includes .now) (a .waiting .now) (a .named .now) (a .c) (a .x) (a .list .now) (c .before .before .before .before .before .before .before .before .before .before .before .before .before .before .before .before .before .before .before .before .before .before .before .before .before .pre) (c .before .before .before .before .before .before .before .before .before .before .before .if4 .left) (c .before .before .before .before .before .before .before .before .before .before .if5 .left) _ _ (c .before .before .before .before .wait-block .ensures))
+    let a = c .before .before .before .before .before .before .before .before .before .before .before .before .before .before .before .before .before .before .before .before .before .before .before .before .before .before .args in
+    answered _ _ (a .blocks .now) (a .includes .now) _ _ (record { stored = a .c .stored; included = a .c .included; pending = a .c .pending + 1; named = a .c .named + length (a .list .now) / 6 }) _ _ _ (offer-waits (limitsOf (a .size) (length (a .blocks .now) / 8) (length (a .includes .now))) (stateIn (a .blocks .now) (a .includes .now) (a .waiting .now) (a .named .now) (a .c)) (blockOf (a .x) (a .list .now)) (good-same (a .size) (length (a .blocks .now) / 8) (length (a .includes .now)) (blockOf (a .x) (a .list .now)) ∙ sym (c .before .before .before .before .before .before .before .before .before .before .before .before .before .before .before .before .before .before .before .good-block .ensures) ∙ not-false _ (c .before .before .before .before .before .before .before .before .before .before .before .before .before .before .before .before .before .before .if1 .left)) (not-known (a .size) _ _ (a .blocks .now) (a .includes .now) (a .waiting .now) (a .named .now) (a .c) (a .x) (a .list .now) (c .before .before .before .before .before .before .before .before .before .before .before .before .before .before .before .before .before .before .before .before .before .before .before .before .before .before .pre .1) (at-least (c .before .before .before .before .before .before .before .before .before .before .before .before .before .before .before .before .row-in .ensures ∙ looked-up (a .sorted) (a .blocks .now) (a .order .now) (a .c .stored) (a .x) (c .before .before .before .before .before .before .before .before .before .before .before .before .before .before .before .before .before .before .before .before .before .before .before .before .before .before .pre .0)) (c .before .before .before .before .before .before .before .before .before .before .before .before .before .before .before .if2 .left)) (at-least (c .before .before .before .before .before .before .before .before .before .before .before .before .before .row-of .ensures) (c .before .before .before .before .before .before .before .before .before .before .before .before .if3 .left))) (not-full (a .size) _ _ (a .blocks .now) (a .includes .now) (a .waiting .now) (a .named .now) (a .c) (a .x) (a .list .now) (c .before .before .before .before .before .before .before .before .before .before .before .before .before .before .before .before .before .before .before .before .before .before .before .before .before .before .pre .1) (c .before .before .before .before .before .before .before .before .before .before .before .if4 .left) (c .before .before .before .before .before .before .before .before .before .before .if5 .left)) (stored-all (a .size) _ _ (a .blocks .now) (a .includes .now) (a .waiting .now) (a .named .now) (a .c) (a .x) (a .list .now) (c .before .before .before .before .before .before .before .before .before .before .before .before .before .before .before .before .before .before .before .before .before .before .before .before .before .before .pre .1) ∙ sym (c .before .before .before .before .before .before .before .before .all-in .ensures ∙ all-looked-up (a .sorted) (a .blocks .now) (a .order .now) (a .c .stored) (refsIn (a .list .now)) (c .before .before .before .before .before .before .before .before .before .before .before .before .before .before .before .before .before .before .before .before .before .before .before .before .before .before .pre .0)) ∙ c .before .before .before .before .before .before .before .if6 .left)) (now-waits (a .size) _ _ (a .blocks .now) (a .includes .now) (a .waiting .now) (a .named .now) (a .c) (a .x) (a .list .now) (c .before .before .before .before .before .before .before .before .before .before .before .before .before .before .before .before .before .before .before .before .before .before .before .before .before .before .pre .1) (c .before .before .before .before .before .before .before .before .before .before .before .if4 .left) (c .before .before .before .before .before .before .before .before .before .before .if5 .left) _ _ (c .before .before .before .before .wait-block .ensures))
 
 pub offer-sound-spec : {M : Type 1} → statement M
 offer-sound-spec =
@@ -132,10 +134,10 @@ offer-sound-spec =
     (tie.spec
     good-block-requires
     returns
-    row-of-requires
+    row-in-requires
     same-length
     returns-2
-    row-of-requires-2
+    row-of-requires
     same-length-2
     same-length-3
     returns-3
@@ -148,7 +150,7 @@ offer-sound-spec =
     same-length-6
     same-length-7
     returns-5
-    all-stored-requires
+    all-in-requires
     enter-block-requires
     sub-grown
     same-length-8
@@ -157,7 +159,7 @@ offer-sound-spec =
     same-length-11
     returns-6
     wait-block-requires
-    add-t16
+    add-t18
     same-length-12
     same-length-13
     same-length-14

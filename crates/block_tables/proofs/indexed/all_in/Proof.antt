@@ -2,21 +2,19 @@
 use Prim.Native.Nat.{_≤_, _-_, _*_, _/_}
 use borrow.Author.Needs.{needs}
 use lib.ListN.{length, drop}
-use mathlib.Core.Path.{_≡_, refl, sym, ap, _∙_}
+use mathlib.Core.Path.{_≡_, refl, ap, _∙_}
 use native.Mathlib.Omega.{arith}
-use Rattle.block_tables.proofs.Loops.{all-next, all-stop, all-end, length-refRows}
-use Rattle.block_tables.specs.Reading.{allAmong}
-use Rattle.block_tables.specs.Words.{refRows}
-use Rattle.offers.specs.Exact.{firstAt}
+use Rattle.block_tables.proofs.Lookups.{found-next, found-stop, found-end}
+use Rattle.block_tables.specs.Reading.{lookedUp, allFound}
 use Rattle.types.specs.References.{refsIn}
 use Rattle.block_tables.proofs.indexed.all_in.Statement.{statement}
 use Rattle.block_tables.proofs.indexed.all_in.Tie as tie
 
 abbrev Inv-loop : tie.InvT-loop
-Inv-loop blocks order n list m k₀ k = (k ≤ m) × (m ≡ length list / 6) × (allAmong (refRows blocks 0 n) (refsIn (drop (k * 6) list)) ≡ allAmong (refRows blocks 0 n) (refsIn list))
+Inv-loop blocks order sorted n list m k₀ k = (k ≤ m) × (m ≡ length list / 6) × (allFound (lookedUp sorted blocks order n) n (refsIn (drop (k * 6) list)) ≡ allFound (lookedUp sorted blocks order n) n (refsIn list))
 
 abbrev μ-loop : tie.MeasureT-loop
-μ-loop blocks order n list m k₀ k = m - k
+μ-loop blocks order sorted n list m k₀ k = m - k
 
 loop-holds : tie.Need-loop-holds Inv-loop μ-loop
 loop-holds c = (omega arith, refl, refl)
@@ -28,25 +26,25 @@ add-k : tie.Need-add-k Inv-loop μ-loop
 add-k c = search needs
 
 row-in-requires : tie.Need-row-in-requires Inv-loop μ-loop
-row-in-requires c κs = c .before .before .before .before .before .before .pre
+row-in-requires c κs = search needs
 
 returns : tie.Need-returns Inv-loop μ-loop
 returns c =
-    let xs = refRows (c .before .before .before .before .before .before .before .before .args .blocks .now) 0 (c .before .before .before .before .before .before .before .before .args .n) in
-    let at = c .before .row-in .ensures ∙ ap (firstAt xs) (c .before .before .reference-in .ensures) in
-    sym (all-stop xs (c .before .before .before .before .before .before .before .before .args .list .now) (c .before .before .before .before .loop .k) (omega (arith, c .before .before .before .before .loop .inv .1)) (omega (arith, at, length-refRows (c .before .before .before .before .before .before .before .before .args .blocks .now) 0 (c .before .before .before .before .before .before .before .before .args .n)))) ∙ c .before .before .before .before .loop .inv .2
+    let row = lookedUp (c .before .before .before .before .before .before .before .before .args .sorted) (c .before .before .before .before .before .before .before .before .args .blocks .now) (c .before .before .before .before .before .before .before .before .args .order .now) (c .before .before .before .before .before .before .before .before .args .n) in
+    let at = c .before .row-in .ensures ∙ ap row (c .before .before .reference-in .ensures) in
+    found-stop row (c .before .before .before .before .before .before .before .before .args .n) (c .before .before .before .before .before .before .before .before .args .list .now) (c .before .before .before .before .loop .k) (omega (arith, c .before .before .before .before .loop .inv .1)) (omega (arith, at)) ∙ c .before .before .before .before .loop .inv .2
 
 loop-less : tie.Need-loop-less Inv-loop μ-loop
 loop-less c = search needs
 
 loop-again : tie.Need-loop-again Inv-loop μ-loop
 loop-again c =
-    let xs = refRows (c .before .before .before .before .before .before .before .before .args .blocks .now) 0 (c .before .before .before .before .before .before .before .before .args .n) in
-    let at = c .before .row-in .ensures ∙ ap (firstAt xs) (c .before .before .reference-in .ensures) in
-    (omega arith, c .before .before .before .before .loop .inv .1, sym (all-next xs (c .before .before .before .before .before .before .before .before .args .list .now) (c .before .before .before .before .loop .k) (omega (arith, c .before .before .before .before .loop .inv .1)) (omega (arith, at, length-refRows (c .before .before .before .before .before .before .before .before .args .blocks .now) 0 (c .before .before .before .before .before .before .before .before .args .n)))) ∙ c .before .before .before .before .loop .inv .2)
+    let row = lookedUp (c .before .before .before .before .before .before .before .before .args .sorted) (c .before .before .before .before .before .before .before .before .args .blocks .now) (c .before .before .before .before .before .before .before .before .args .order .now) (c .before .before .before .before .before .before .before .before .args .n) in
+    let at = c .before .row-in .ensures ∙ ap row (c .before .before .reference-in .ensures) in
+    (omega arith, c .before .before .before .before .loop .inv .1, found-next row (c .before .before .before .before .before .before .before .before .args .n) (c .before .before .before .before .before .before .before .before .args .list .now) (c .before .before .before .before .loop .k) (omega (arith, c .before .before .before .before .loop .inv .1)) (omega (arith, at)) ∙ c .before .before .before .before .loop .inv .2)
 
 returns-2 : tie.Need-returns-2 Inv-loop μ-loop
-returns-2 c = sym (all-end (refRows (c .before .before .before .before .before .args .blocks .now) 0 (c .before .before .before .before .before .args .n)) (c .before .before .before .before .before .args .list .now) (c .before .loop .k) (omega (arith, c .before .loop .inv .1))) ∙ c .before .loop .inv .2
+returns-2 c = found-end (lookedUp (c .before .before .before .before .before .args .sorted) (c .before .before .before .before .before .args .blocks .now) (c .before .before .before .before .before .args .order .now) (c .before .before .before .before .before .args .n)) (c .before .before .before .before .before .args .n) (c .before .before .before .before .before .args .list .now) (c .before .loop .k) (omega (arith, c .before .loop .inv .1)) ∙ c .before .loop .inv .2
 
 pub all-in-spec : {M : Type 1} → statement M
 all-in-spec =
