@@ -12,8 +12,10 @@ use native.Mathlib.Omega.{arith}
 use Rattle.block_store.specs.Sound.{soundStore}
 use Rattle.block_store.specs.Store.{Store, storeOf, fieldOf, roundOf}
 use Rattle.linked.proofs.Marking.{of-round-in}
+use Rattle.linked.proofs.Queueing.{marks-more}
 use Rattle.linked.specs.Linked.{ofRound, parentsAt, linked, linkedIn, linkedAnswer}
 use Rattle.linked.specs.Marks.{keptAt, Clean, Reached}
+use Rattle.linked.specs.Queue.{Alone}
 use Rattle.types.proofs.Tests.{by-test, and-false}
 use Rattle.types.specs.Limits.{maxAuthorities}
 use Rattle.types.specs.Reports.{Refuses, says}
@@ -50,6 +52,16 @@ module _ (bs : List ℕ) (n later : ℕ) (w : List ℕ) (room : ℕ) (ew : w ≡
       by-test (eqb later b)
       (λ t. rw (← eqb-true later b t) start-here)
       (λ t. rw (t, marked-at b (λ q. eqb-false later b t (sym q)), and-false) refl)
+
+  pub start-alone : (u : ℕ) → u ≡ fieldOf bs later 1 → Alone bs n u (set w later 1) later
+  start-alone u eu =
+      let unmarked : getD w later 0 ≡ 0 = rw ew (zeros-at room later) in
+      let size : length w ≡ room = rw ew (length-replicate {A = ℕ} room 0) in
+      record {
+        stored = row;
+        only = λ b e. eqb-true later b (sym (start-kept b) ∙ (rw eu at e));
+        marked = omega (arith, marks-more w n later (omega arith) row (λ e. omega arith));
+      }
 
   -- the end: what is kept in the earlier block's round
   pub reached-linked : (is : List ℕ) (t : Bool) (e u l : ℕ) (w′ : List ℕ) → u ≡ fieldOf bs later 1 → l ≡ fieldOf bs e 1

@@ -1,5 +1,6 @@
 pub mod Marking
 pub mod Stretches
+pub mod Queueing
 pub mod Laws
 pub mod Paths
 pub mod Examples

@@ -117,28 +117,32 @@ pub low-none : (bs is : List ℕ) (n upper low : ℕ) (w : List ℕ) → LowFrom
 low-none bs is n upper low w =
     (omega arith, refl, λ b. rw (any-zero (parentOf (storeOf bs is n) (keptAt bs n upper w) b), and-false (ofRound bs n low b)) refl)
 
-marked-twice : (o c a : Bool) (z : ℕ) → cond (o && c) 1 (cond (o && a) 1 z) ≡ cond (o && (a || c)) 1 z
+pub marked-twice : (o c a : Bool) (z : ℕ) → cond (o && c) 1 (cond (o && a) 1 z) ≡ cond (o && (a || c)) 1 z
 marked-twice true true true z = refl
 marked-twice true true false z = refl
 marked-twice true false true z = refl
 marked-twice true false false z = refl
 marked-twice false c a z = refl
 
-or-false : (a : Bool) → (a || false) ≡ a
+pub or-false : (a : Bool) → (a || false) ≡ a
 or-false true = refl
 or-false false = refl
 
+-- marks of the lower round change nothing of the upper one
+pub kept-above : (bs : List ℕ) (n upper low : ℕ) (w₀ w : List ℕ) → low < upper → (k : ℕ) (a : Bool) → getD w k 0 ≡ cond (ofRound bs n low k && a) 1 (getD w₀ k 0)
+    → keptAt bs n upper w k ≡ keptAt bs n upper w₀ k
+unfolding keptAt
+kept-above bs n upper low w₀ w lt k a e =
+    by-test (ofRound bs n upper k)
+    (λ o.
+    let q : fieldOf bs k 1 ≡ upper = round-of bs n upper k o in
+    let p : ofRound bs n low k ≡ false = other-round bs n low k (λ r. omega arith) in
+    rw (o, e, p) refl)
+    (λ o. rw o refl)
+
 module _ (bs is : List ℕ) (n upper low : ℕ) (w₀ w : List ℕ) (k : ℕ) (lt : low < upper) (inv : LowFrom bs is n upper low w₀ w k) where
-  -- marks of the lower round change nothing of the upper one
   kept-still : keptAt bs n upper w k ≡ keptAt bs n upper w₀ k
-  unfolding keptAt
-  kept-still =
-      by-test (ofRound bs n upper k)
-      (λ o.
-      let q : fieldOf bs k 1 ≡ upper = round-of bs n upper k o in
-      let p : ofRound bs n low k ≡ false = other-round bs n low k (λ r. omega arith) in
-      rw (o, inv .2 k, p) refl)
-      (λ o. rw o refl)
+  kept-still = kept-above bs n upper low w₀ w lt k _ (inv .2 k)
 
   parent-not : (b : ℕ) → keptAt bs n upper w₀ k ≡ false → parentOf (storeOf bs is n) (keptAt bs n upper w₀) b k ≡ false
   unfolding parentOf

@@ -72,7 +72,7 @@ module _ (s : Store) where
         }
 
   -- nothing is marked below a clean round, so nothing is kept there
-  clean-empty : (mid low : ℕ) (w : List ℕ) → low < mid → Clean (s .blocks) mid w → Empty (s .blocks) (s .count) low w
+  pub clean-empty : (mid low : ℕ) (w : List ℕ) → low < mid → Clean (s .blocks) mid w → Empty (s .blocks) (s .count) low w
   unfolding Clean Empty keptAt
   clean-empty mid low w h clean b =
       by-test (ofRound (s .blocks) (s .count) low b)

@@ -2,6 +2,7 @@
 // No public function has a `requires`.
 mod marks; // the marks in the work bytes, a round at a time
 pub mod parts; // the same without the test of the tables
+mod queue; // the kept rows in a queue, so that a step back looks at them alone
 
 use block_store::sound::store_is_sound;
 use parts::is_linked;

@@ -14,7 +14,7 @@ ghost use Rattle.linked.specs.Linked.{contains, ofRound, lower};
 ghost use Rattle.linked.specs.Marks.{keptAt, Clean, Empty, Reached};
 
 // Whether a row is a stored one of that round.
-fn of_round(blocks: &[u64], stored: usize, round: RoundNumber, row: usize) -> bool
+pub(crate) fn of_round(blocks: &[u64], stored: usize, round: RoundNumber, row: usize) -> bool
     ensures { λ r. ⌜ r ≡ ofRound (now (blocks .entry)) stored (round .0) row ⌝ }
 {
     if stored <= row {
@@ -101,8 +101,8 @@ fn mark_lower(
     }
 }
 
-// The step from the rows kept in the round `upper` to the round `low` below it: no where nothing is kept there.
-pub(crate) fn keep_lower(
+// The step from the rows kept in the round `upper` to the round `low` below it, by a look at every row: no where nothing is kept there.
+pub(crate) fn scan_lower(
     blocks: &[u64],
     includes: &[u64],
     stored: usize,

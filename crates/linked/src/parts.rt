@@ -1,44 +1,51 @@
 // `linked` without the test of the tables, for calls that have tested them already. The part tests nothing and is total.
 use crate::marks::is_kept;
-use crate::marks::keep_lower;
+use crate::queue::Window;
+use crate::queue::begin;
+use crate::queue::keep_lower;
 use block_store::parts::round_at;
 use types::RoundNumber;
 use types::words::clear_bytes;
 ghost use mathlib.Core.Path.{_≡_};
-ghost use mathlib.Core.Bool.{false};
 ghost use Prim.Native.Nat.{_≤_};
 ghost use lib.ListN.{length, replicate};
+ghost use Rattle.types.specs.Limits.{maxBlocks};
 ghost use Rattle.block_store.specs.Store.{storeOf};
 ghost use Rattle.linked.specs.Linked.{linkedIn};
-ghost use Rattle.linked.specs.Marks.{Clean, Empty, Reached};
+ghost use Rattle.linked.specs.Marks.{Clean, Reached};
+ghost use Rattle.linked.specs.Queue.{Held, Alone};
 
 // The most rounds that the recursion steps back in one go: what bounds the stack.
 const STRETCH: u64 = 1024;
 
-// Steps back from the rows kept in the round `upper`, calling itself one round lower until it reaches the round `low`, and ends where nothing
-// is kept: then it says no. The rows kept in `low` stay marked.
+// Steps back from the rows kept in the round `upper`, which stand in the window, calling itself one round lower until it reaches the round
+// `low`, and ends where nothing is kept. Gives the window of the rows kept in `low`, which stay marked: an empty one where there are none.
 fn linked_from(
     blocks: &[u64],
     includes: &[u64],
     stored: usize,
     low: RoundNumber,
     upper: RoundNumber,
+    queue: &mut [u16],
+    window: Window,
     work: &mut [u8],
-) -> bool
-    requires { ⌜ stored ≤ length (now work) ⌝ }
+) -> Window
+    requires { ⌜ (stored ≤ length (now work)) × (length (now queue) ≤ maxBlocks) ⌝ }
     requires { ⌜ low .0 ≤ upper .0 ⌝ }
     requires { ⌜ Clean (now blocks) (upper .0) (now work) ⌝ }
+    requires { ⌜ Held (now blocks) stored (upper .0) (now work) (now queue) (window .start) (window .end) ⌝ }
     ensures { λ r. ⌜ Reached (storeOf (now (blocks .entry)) (now (includes .entry)) stored) (upper .0) (low .0) (now (work .entry)) (now (work .exit)) ⌝ }
-    ensures { λ r. ⌜ (r ≡ false → Empty (now (blocks .entry)) stored (low .0) (now (work .exit))) ⌝ }
+    ensures { λ r. ⌜ Held (now (blocks .entry)) stored (low .0) (now (work .exit)) (now (queue .exit)) (r .start) (r .end) ⌝ }
 {
     if upper.0 <= low.0 {
-        return true;
+        return window;
     }
     let next = RoundNumber(upper.0 - 1);
-    if keep_lower(blocks, includes, stored, upper, next, work) {
-        linked_from(blocks, includes, stored, low, next, work)
+    let kept = keep_lower(blocks, includes, stored, upper, next, queue, window, work);
+    if kept.start < kept.end {
+        linked_from(blocks, includes, stored, low, next, queue, kept, work)
     } else {
-        false
+        Window { start: 0, end: 0 }
     }
 }
 
@@ -49,22 +56,180 @@ fn step_back(
     stored: usize,
     low: RoundNumber,
     upper: RoundNumber,
+    queue: &mut [u16],
+    first: Window,
+    work: &mut [u8],
+)
+    requires { ⌜ (stored ≤ length (now work)) × (length (now queue) ≤ maxBlocks) ⌝ }
+    requires { ⌜ low .0 ≤ upper .0 ⌝ }
+    requires { ⌜ Clean (now blocks) (upper .0) (now work) ⌝ }
+    requires { ⌜ Held (now blocks) stored (upper .0) (now work) (now queue) (first .start) (first .end) ⌝ }
+    ensures { λ _. ⌜ Reached (storeOf (now (blocks .entry)) (now (includes .entry)) stored) (upper .0) (low .0) (now (work .entry)) (now (work .exit)) ⌝ }
+{
+    let mut from = upper.0;
+    let mut window = first;
+    while STRETCH < from - low.0 {
+        let to = RoundNumber(from - STRETCH);
+        window = linked_from(
+            blocks,
+            includes,
+            stored,
+            to,
+            RoundNumber(from),
+            queue,
+            window,
+            work,
+        );
+        if window.end <= window.start {
+            return;
+        }
+        from = to.0;
+    }
+    linked_from(
+        blocks,
+        includes,
+        stored,
+        low,
+        RoundNumber(from),
+        queue,
+        window,
+        work,
+    );
+}
+
+// Steps back from one row, the first in the queue.
+fn step_from(
+    blocks: &[u64],
+    includes: &[u64],
+    stored: usize,
+    low: RoundNumber,
+    upper: RoundNumber,
+    later: usize,
+    queue: &mut [u16],
+    work: &mut [u8],
+)
+    requires { ⌜ (stored ≤ length (now work)) × (length (now queue) ≤ maxBlocks) ⌝ }
+    requires { ⌜ low .0 ≤ upper .0 ⌝ }
+    requires { ⌜ Clean (now blocks) (upper .0) (now work) ⌝ }
+    requires { ⌜ Alone (now blocks) stored (upper .0) (now work) later ⌝ }
+    ensures { λ _. ⌜ Reached (storeOf (now (blocks .entry)) (now (includes .entry)) stored) (upper .0) (low .0) (now (work .entry)) (now (work .exit)) ⌝ }
+{
+    let first = begin(queue, stored, later);
+    step_back(blocks, includes, stored, low, upper, queue, first, work);
+}
+
+// The same with a queue of its own, for at most 256 rows.
+fn reach_256(
+    blocks: &[u64],
+    includes: &[u64],
+    stored: usize,
+    low: RoundNumber,
+    upper: RoundNumber,
+    later: usize,
     work: &mut [u8],
 )
     requires { ⌜ stored ≤ length (now work) ⌝ }
     requires { ⌜ low .0 ≤ upper .0 ⌝ }
     requires { ⌜ Clean (now blocks) (upper .0) (now work) ⌝ }
+    requires { ⌜ Alone (now blocks) stored (upper .0) (now work) later ⌝ }
     ensures { λ _. ⌜ Reached (storeOf (now (blocks .entry)) (now (includes .entry)) stored) (upper .0) (low .0) (now (work .entry)) (now (work .exit)) ⌝ }
 {
-    let mut from = upper.0;
-    while STRETCH < from - low.0 {
-        let to = RoundNumber(from - STRETCH);
-        if !linked_from(blocks, includes, stored, to, RoundNumber(from), work) {
-            return;
-        }
-        from = to.0;
+    let mut queue = [0u16; 256];
+    step_from(
+        blocks,
+        includes,
+        stored,
+        low,
+        upper,
+        later,
+        &mut queue,
+        work,
+    );
+}
+
+// The same for at most 4,096 rows.
+fn reach_4096(
+    blocks: &[u64],
+    includes: &[u64],
+    stored: usize,
+    low: RoundNumber,
+    upper: RoundNumber,
+    later: usize,
+    work: &mut [u8],
+)
+    requires { ⌜ stored ≤ length (now work) ⌝ }
+    requires { ⌜ low .0 ≤ upper .0 ⌝ }
+    requires { ⌜ Clean (now blocks) (upper .0) (now work) ⌝ }
+    requires { ⌜ Alone (now blocks) stored (upper .0) (now work) later ⌝ }
+    ensures { λ _. ⌜ Reached (storeOf (now (blocks .entry)) (now (includes .entry)) stored) (upper .0) (low .0) (now (work .entry)) (now (work .exit)) ⌝ }
+{
+    let mut queue = [0u16; 4096];
+    step_from(
+        blocks,
+        includes,
+        stored,
+        low,
+        upper,
+        later,
+        &mut queue,
+        work,
+    );
+}
+
+// The same for as many rows as a table has.
+fn reach_65536(
+    blocks: &[u64],
+    includes: &[u64],
+    stored: usize,
+    low: RoundNumber,
+    upper: RoundNumber,
+    later: usize,
+    work: &mut [u8],
+)
+    requires { ⌜ stored ≤ length (now work) ⌝ }
+    requires { ⌜ low .0 ≤ upper .0 ⌝ }
+    requires { ⌜ Clean (now blocks) (upper .0) (now work) ⌝ }
+    requires { ⌜ Alone (now blocks) stored (upper .0) (now work) later ⌝ }
+    ensures { λ _. ⌜ Reached (storeOf (now (blocks .entry)) (now (includes .entry)) stored) (upper .0) (low .0) (now (work .entry)) (now (work .exit)) ⌝ }
+{
+    let mut queue = [0u16; 65536];
+    step_from(
+        blocks,
+        includes,
+        stored,
+        low,
+        upper,
+        later,
+        &mut queue,
+        work,
+    );
+}
+
+// The same with a queue that fits the rows.
+fn reach(
+    blocks: &[u64],
+    includes: &[u64],
+    stored: usize,
+    low: RoundNumber,
+    upper: RoundNumber,
+    later: usize,
+    work: &mut [u8],
+)
+    requires { ⌜ stored ≤ length (now work) ⌝ }
+    requires { ⌜ low .0 ≤ upper .0 ⌝ }
+    requires { ⌜ Clean (now blocks) (upper .0) (now work) ⌝ }
+    requires { ⌜ Alone (now blocks) stored (upper .0) (now work) later ⌝ }
+    ensures { λ _. ⌜ Reached (storeOf (now (blocks .entry)) (now (includes .entry)) stored) (upper .0) (low .0) (now (work .entry)) (now (work .exit)) ⌝ }
+{
+    if stored <= 256 {
+        reach_256(blocks, includes, stored, low, upper, later, work);
+        return;
     }
-    linked_from(blocks, includes, stored, low, RoundNumber(from), work);
+    if stored <= 4096 {
+        reach_4096(blocks, includes, stored, low, upper, later, work);
+        return;
+    }
+    reach_65536(blocks, includes, stored, low, upper, later, work);
 }
 
 // Whether the block in row `earlier` is an ancestor of the one in row `later`, each step one round down, or the same row; no where a row is no
@@ -96,7 +261,7 @@ pub fn is_linked(
         return later == earlier;
     }
     work[later] = 1;
-    step_back(blocks, includes, stored, low, upper, work);
+    reach(blocks, includes, stored, low, upper, later, work);
     let yes = is_kept(blocks, stored, low, &work[..], earlier);
     clear_bytes(work);
     yes

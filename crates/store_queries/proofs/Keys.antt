@@ -152,6 +152,29 @@ next-least blocks p (suc n) above i h e a = go (eq-or-lt-of-le (le-of-suc-le-suc
         (b .0, omega (arith, b .1))
     go (inr k) ih = least-old (p n) above (fieldOf blocks n 1) (nextRound blocks p n above) (fieldOf blocks i 1) (ih k) (lower-cases (p n) above (fieldOf blocks n 1) (nextRound blocks p n above))
 
+-- where there is one, some row has it
+next-there : (blocks : List ℕ) (p : ℕ → Bool) (n above : ℕ) → 0 < nextRound blocks p n above
+    → (i : ℕ) × (i < n) × (p i ≡ true) × (above < fieldOf blocks i 1) × (nextRound blocks p n above ≡ fieldOf blocks i 1)
+unfolding nextRound lower
+next-there blocks p zero above h = absurd (omega arith)
+next-there blocks p (suc n) above h =
+    by-test (p n && (ltb above (fieldOf blocks n 1) && (eqb (nextRound blocks p n above) 0 || ltb (fieldOf blocks n 1) (nextRound blocks p n above))))
+    (λ t. (n, omega arith, both-left _ _ t, ltb-true above (fieldOf blocks n 1) (both-left _ _ (both-right (p n) _ t)), rw t refl))
+    (λ t. let r = next-there blocks p n above (rw t at h) in (r .0, omega (arith, r .1), r .2, r .3, rw t (r .4)))
+
+-- the lowest round above of a row that has p is the next one
+pub next-is : (blocks : List ℕ) (p : ℕ → Bool) (n above i : ℕ) → i < n → p i ≡ true → above < fieldOf blocks i 1
+    → ((j : ℕ) → j < n → p j ≡ true → above < fieldOf blocks j 1 → fieldOf blocks i 1 ≤ fieldOf blocks j 1) → fieldOf blocks i 1 ≡ nextRound blocks p n above
+next-is blocks p n above i h e a least =
+    let b = next-least blocks p n above i h e a in
+    let r = next-there blocks p n above (b .0) in
+    omega (arith, b .1, r .4, least (r .0) (r .1) (r .2) (r .3))
+
+-- with none above there is no next one
+pub next-not : (blocks : List ℕ) (p : ℕ → Bool) (n above : ℕ) → ((j : ℕ) → j < n → p j ≡ true → fieldOf blocks j 1 ≤ above) → nextRound blocks p n above ≡ 0
+next-not blocks p n above none =
+    ⊎-elim (λ h. let r = next-there blocks p n above h in absurd (omega (arith, r .3, none (r .0) (r .1) (r .2)))) (λ h. omega arith) (lt-or-le 0 (nextRound blocks p n above))
+
 -- ---- the last of the first rounds
 
 pub last-start : (f : ℕ → ℕ) (limit above left last : ℕ) → left ≡ limit → last ≡ above → lastRound f left last ≡ lastRound f limit above

@@ -4,6 +4,7 @@ pub mod Calls
 pub mod Passing
 pub mod Filling
 pub mod Keys
+pub mod Rising
 pub mod Own
 pub mod Examples
 pub mod Meaning

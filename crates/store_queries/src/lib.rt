@@ -4,6 +4,7 @@ pub mod answers; // what the queries answer
 pub mod filter; // which rows are wanted
 pub mod lists; // the queries that fill an area with rows
 pub mod lookup; // the queries for one block, or whether there is one
+mod ordered; // rounds counted in one pass, by the rows in order
 pub mod parts; // the passes over the rows
 pub mod rounds; // the queries for a round, the last own block and the number of blocks
 

@@ -3,6 +3,7 @@ use crate::answers::FoundRow;
 use crate::answers::FoundRows;
 use crate::filter::Filter;
 use crate::filter::passes;
+use crate::ordered::count_rounds;
 use block_store::parts::authority_at;
 use block_store::parts::round_at;
 use types::AuthorityIndex;
@@ -15,6 +16,9 @@ ghost use Rattle.types.specs.Below.{anyBelow, rowsBelow};
 ghost use Rattle.types.specs.Reports.{Gives};
 ghost use Rattle.store_queries.specs.Answers.{reportedRow, reportedRows};
 ghost use Rattle.store_queries.specs.Rows.{passesOf, listed, filled, highestOf, lastOwnRow, nextRound, lastRound};
+
+// Up to so many rounds each takes a pass of its own.
+const FEW: usize = 16;
 
 // Whether some of the rows is wanted.
 pub fn any_row(blocks: &[u64], stored: usize, filter: Filter) -> bool
@@ -136,8 +140,8 @@ pub fn next_round(blocks: &[u64], stored: usize, filter: Filter, above: RoundNum
     RoundNumber(next)
 }
 
-// The last of the first `limit` rounds above a round that hold a wanted row; that round itself if there are none.
-pub fn last_round(
+// The last of the first `limit` rounds above a round that hold a wanted row; that round itself if there are none. A pass for each round.
+pub(crate) fn scan_rounds(
     blocks: &[u64],
     stored: usize,
     filter: Filter,
@@ -157,4 +161,20 @@ pub fn last_round(
         last = next.0;
     }
     RoundNumber(last)
+}
+
+// The same. Few rounds take a pass each, more are counted in one pass over the rows in order.
+pub fn last_round(
+    blocks: &[u64],
+    stored: usize,
+    filter: Filter,
+    above: RoundNumber,
+    limit: usize,
+) -> RoundNumber
+    ensures { λ r. ⌜ r .0 ≡ lastRound (nextRound (now (blocks .entry)) (passesOf (now (blocks .entry)) filter) stored) limit (above .0) ⌝ }
+{
+    if limit <= FEW {
+        return scan_rounds(blocks, stored, filter, above, limit);
+    }
+    count_rounds(blocks, stored, filter, above, limit)
 }

@@ -5,7 +5,7 @@ use lib.ListN.{length, replicate, length-set}
 use mathlib.Core.Path.{_∙_, ap}
 use native.Mathlib.Omega.{arith}
 use Rattle.block_store.specs.Store.{storeOf}
-use Rattle.linked.proofs.Laws.{start-clean, reached-linked, no-later, no-earlier, no-room, level-in, above-in}
+use Rattle.linked.proofs.Laws.{start-clean, start-alone, reached-linked, no-later, no-earlier, no-room, level-in, above-in}
 use Rattle.linked.proofs.parts.is_linked.Statement.{statement}
 use Rattle.linked.proofs.parts.is_linked.Tie as tie
 
@@ -76,8 +76,8 @@ returns-4 c =
 slice-write-work : tie.Need-slice-write-work
 slice-write-work c = search needs
 
-step-back-requires : tie.Need-step-back-requires
-step-back-requires c κs =
+reach-requires : tie.Need-reach-requires
+reach-requires c κs =
     let at-round-at2 = c .before .before .before .before in
     let at-if3 = at-round-at2 .before .before in
     let at-if1 = at-if3 .before .before in
@@ -87,9 +87,14 @@ step-back-requires c κs =
       simp length-set (at-if3 .if3 .left),
       (
         omega (arith, c .before .if4 .left),
-        start-clean (a .blocks .now) (a .stored) (a .later) (at-clear-bytes .clear-bytes .last .0) (length (a .work .now)) (at-clear-bytes .clear-bytes .ensures)
-            (at-if1 .if1 .left) (omega (arith, at-if3 .if3 .left, at-clear-bytes .clear-bytes .kept .0))
-            _ (at-round-at2 .round-at2 .ensures),
+        (
+          start-clean (a .blocks .now) (a .stored) (a .later) (at-clear-bytes .clear-bytes .last .0) (length (a .work .now)) (at-clear-bytes .clear-bytes .ensures)
+              (at-if1 .if1 .left) (omega (arith, at-if3 .if3 .left, at-clear-bytes .clear-bytes .kept .0))
+              _ (at-round-at2 .round-at2 .ensures),
+          start-alone (a .blocks .now) (a .stored) (a .later) (at-clear-bytes .clear-bytes .last .0) (length (a .work .now)) (at-clear-bytes .clear-bytes .ensures)
+              (at-if1 .if1 .left) (omega (arith, at-if3 .if3 .left, at-clear-bytes .clear-bytes .kept .0))
+              _ (at-round-at2 .round-at2 .ensures),
+        ),
       ),
     )
 
@@ -102,11 +107,11 @@ clear-bytes-requires-2 c κs = search needs
 same-length-5 : tie.Need-same-length-5
 same-length-5 c =
     let at-clear-bytes2 = c .before .before in
-    let at-step-back = at-clear-bytes2 .before .before .before .before .before .before in
-    let at-clear-bytes = at-step-back .before .before .before .before .before .before .before .before .before .before .before .before in
+    let at-reach = at-clear-bytes2 .before .before .before .before .before .before in
+    let at-clear-bytes = at-reach .before .before .before .before .before .before .before .before .before .before .before .before in
     let start = at-clear-bytes .before .before .before .before .before in
     at-clear-bytes2 .clear-bytes2 .kept .0
-    ∙ at-step-back .step-back .kept .1 .1 .1 .1 .1 .0
+    ∙ at-reach .reach .kept .1 .1 .1 .1 .1 .1 .0
     ∙ length-set (at-clear-bytes .clear-bytes .last .0) (start .args .later) 1
     ∙ at-clear-bytes .clear-bytes .kept .0
 
@@ -114,8 +119,8 @@ returns-5 : tie.Need-returns-5
 returns-5 c =
     let at-clear-bytes2 = c .before .before in
     let at-is-kept = at-clear-bytes2 .before .before in
-    let at-step-back = at-is-kept .before .before .before .before in
-    let at-round-at2 = at-step-back .before .before .before .before .before in
+    let at-reach = at-is-kept .before .before .before .before in
+    let at-round-at2 = at-reach .before .before .before .before .before in
     let at-round-at = at-round-at2 .before in
     let at-if3 = at-round-at .before in
     let at-if2 = at-if3 .before in
@@ -128,11 +133,11 @@ returns-5 c =
           _
           (reached-linked (a .blocks .now) (a .stored) (a .later) (at-clear-bytes .clear-bytes .last .0) (length (a .work .now)) (at-clear-bytes .clear-bytes .ensures)
           (at-if1 .if1 .left) (omega (arith, at-if3 .if3 .left, at-clear-bytes .clear-bytes .kept .0))
-          (a .includes .now) _ (a .earlier) _ _ (at-step-back .step-back .last .1 .1 .1 .1 .1 .0)
-          (at-round-at2 .round-at2 .ensures) (at-round-at .round-at .ensures) (at-step-back .step-back .ensures) (at-is-kept .is-kept .ensures)),
+          (a .includes .now) _ (a .earlier) _ _ (at-reach .reach .last .1 .1 .1 .1 .1 .1 .0)
+          (at-round-at2 .round-at2 .ensures) (at-round-at .round-at .ensures) (at-reach .reach .ensures) (at-is-kept .is-kept .ensures)),
       at-clear-bytes2 .clear-bytes2 .ensures
           ∙ ap (λ (k : ℕ). replicate k 0)
-          (at-step-back .step-back .kept .1 .1 .1 .1 .1 .0 ∙ length-set (at-clear-bytes .clear-bytes .last .0) (a .later) 1 ∙ at-clear-bytes .clear-bytes .kept .0),
+          (at-reach .reach .kept .1 .1 .1 .1 .1 .1 .0 ∙ length-set (at-clear-bytes .clear-bytes .last .0) (a .later) 1 ∙ at-clear-bytes .clear-bytes .kept .0),
     )
 
 pub is-linked-spec : {M : Type 1} → statement M
@@ -151,7 +156,7 @@ is-linked-spec =
     same-length-4
     returns-4
     slice-write-work
-    step-back-requires
+    reach-requires
     is-kept-requires
     clear-bytes-requires-2
     same-length-5

@@ -1,11 +1,11 @@
--- `last_round` meets its contract. The loop's invariant: from here with what is left of the limit, the same last round. Assumes nothing.
+-- `scan_rounds` meets its contract. The loop's invariant: from here with what is left of the limit, the same last round. Assumes nothing.
 use Prim.Native.Nat.{_-_}
 use borrow.Author.Needs.{needs}
 use mathlib.Core.Path.{_≡_, refl, sym, _∙_}
 use Rattle.store_queries.proofs.Keys.{last-stop, last-step, last-done}
 use Rattle.store_queries.specs.Rows.{passesOf, nextRound, lastRound}
-use Rattle.store_queries.proofs.parts.last_round.Statement.{statement}
-use Rattle.store_queries.proofs.parts.last_round.Tie as tie
+use Rattle.store_queries.proofs.parts.scan_rounds.Statement.{statement}
+use Rattle.store_queries.proofs.parts.scan_rounds.Tie as tie
 
 abbrev Inv-loop : tie.InvT-loop
 Inv-loop blocks stored filter limit last₀ left₀ last left = lastRound (nextRound blocks (passesOf blocks filter) stored) left last ≡ lastRound (nextRound blocks (passesOf blocks filter) stored) limit last₀
@@ -40,8 +40,8 @@ returns-2 c =
     let a = c .before .before .before .args in
     sym (last-done (nextRound (a .blocks .now) (passesOf (a .blocks .now) (a .filter)) (a .stored)) (c .before .loop .left) (c .before .loop .last) (c .loop-test .left)) ∙ c .before .loop .inv
 
-pub last-round-spec : {M : Type 1} → statement M
-last-round-spec =
+pub scan-rounds-spec : {M : Type 1} → statement M
+scan-rounds-spec =
     tie.close
     (tie.spec
     Inv-loop

@@ -1,9 +1,9 @@
--- `keep_lower` meets its contract: the marks of the lower round are one step back.
+-- `scan_lower` meets its contract: the marks of the lower round are one step back.
 use borrow.Author.Needs.{needs}
 use Rattle.block_store.specs.Store.{storeOf}
 use Rattle.linked.proofs.Stretches.{reached-step, none-kept}
-use Rattle.linked.proofs.marks.keep_lower.Statement.{statement}
-use Rattle.linked.proofs.marks.keep_lower.Tie as tie
+use Rattle.linked.proofs.marks.scan_lower.Statement.{statement}
+use Rattle.linked.proofs.marks.scan_lower.Tie as tie
 
 mark-lower-requires : tie.Need-mark-lower-requires
 mark-lower-requires c κs = search needs
@@ -23,5 +23,5 @@ returns c =
       none-kept (a .blocks .now) (a .stored) (a .low .0) (at-mark-lower .mark-lower .last .1 .1 .1 .1 .1 .0) _ (c .some-kept .ensures),
     )
 
-pub keep-lower-spec : {M : Type 1} → statement M
-keep-lower-spec = tie.close (tie.spec mark-lower-requires some-kept-requires same-length returns)
+pub scan-lower-spec : {M : Type 1} → statement M
+scan-lower-spec = tie.close (tie.spec mark-lower-requires some-kept-requires same-length returns)
