@@ -18,22 +18,24 @@ use meter::Meter;
 const SEED: u64 = 2026;
 const SIZES: [usize; 4] = [4, 10, 50, 100];
 const BLOCKS: [usize; 3] = [1_000, 10_000, 65_536];
+/// Counting makes everything some fifty times as long, the making of the original's DAGs too.
+const COUNTED_BLOCKS: [usize; 1] = [1_000];
 
 fn main() {
     match std::env::args().nth(1).as_deref() {
-        Some("times") => tables(&Meter::of_the_machine()),
-        Some("counts") => tables(&Meter::of_callgrind()),
+        Some("times") => tables(&Meter::of_the_machine(), &BLOCKS),
+        Some("counts") => tables(&Meter::of_callgrind(), &COUNTED_BLOCKS),
         Some("stack") => stack::print(),
         _ => println!("bench times | counts | stack"),
     }
 }
 
-fn tables(meter: &Meter) {
+fn tables(meter: &Meter, sizes: &[usize]) {
     println!("\n## {}\n", meter.name());
     let mut lines = vec![];
     for size in SIZES {
         for full in [true, false] {
-            for blocks in BLOCKS {
+            for &blocks in sizes {
                 let shape = Shape { size, blocks, full };
                 match Dag::new(shape, SEED).and_then(|dag| case::measured(meter, &dag)) {
                     Ok(measured) => lines.extend(measured),
