@@ -25,7 +25,7 @@ ghost use Rattle.lines.specs.Lines.{endOf};
 ghost use Rattle.decisions.specs.Decisions.{areaRows, clockAfter, leadersIn, lastIn, linearizedOf, decideOf, printedOf, decisionsOf};
 
 // The rows of the memory, the answer and the work areas of the program.
-pub const ROWS: usize = 128;
+const ROWS: usize = 128;
 
 // The words of the answer area.
 const ANSWER_WORDS: usize = 512;

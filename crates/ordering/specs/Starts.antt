@@ -1,20 +1,20 @@
 -- The start of a run: document 01, "The ordering program", the header. Assumes nothing: these are definitions.
-use Prim.Native.Nat.{ℕ, _+_}
+use Prim.Native.Nat.{ℕ}
 use lib.Dec.{eqb}
 use lib.ListN.{length, getD, take}
 use mathlib.Core.Bool.{Bool, true, false, cond, _&&_}
-use mathlib.Core.List.{List, [], _∷_, _++_}
+use mathlib.Core.List.{List, [], _∷_}
 use Rattle.committee.specs.Committees.{newVerdict, newCommittee, zeroCommittee}
 use Rattle.committee.specs.declared.Committee.{Committee}
 use Rattle.consensus.specs.Statuses.{at}
 use Rattle.lines.specs.Lines.{endOf}
+use Rattle.ordering.specs.declared.Run.{Run}
+use Rattle.ordering.specs.declared.Turn.{Turn}
 use Rattle.stream.specs.Records.{headerOf, stakesOf}
 use Rattle.threshold_clock.specs.Clocks.{startedAt}
 use Rattle.types.specs.Reports.{Report, Gives, Refuses}
 use Rattle.universal_committer.specs.Options.{soundOptions}
 use Rattle.universal_committer.specs.declared.options.UniversalCommitterOptions.{UniversalCommitterOptions}
-use Rattle.ordering.specs.declared.Run.{Run}
-use Rattle.ordering.specs.declared.Turn.{Turn}
 
 -- a run in which nothing has been offered: the clock starts "from 0", the last decided position is 0/0
 unfoldable pub newRun : Committee → UniversalCommitterOptions → Run

@@ -1,6 +1,6 @@
 -- One step of the ordering program, from the bytes of an offer to its lines: document 01, "The ordering program". It composes the definitions
 -- of the crates below. Assumes nothing: these are definitions.
-use Prim.Native.Nat.{ℕ, zero, suc, _+_, _-_, _*_}
+use Prim.Native.Nat.{ℕ, _+_, _-_, _*_}
 use lib.Dec.{eqb}
 use lib.ListN.{length, getD, take, replicate}
 use lib.Seq.{sets}
@@ -8,22 +8,22 @@ use mathlib.Core.Bool.{Bool, true, false, cond}
 use mathlib.Core.List.{List, [], _∷_, _++_}
 use Rattle.answer_lines.specs.Texts.{offeredText}
 use Rattle.block_manager.specs.Call.{answerOf, tablesAfter}
-use Rattle.block_store.specs.Store.{Store, storeOf}
+use Rattle.block_store.specs.Store.{storeOf}
 use Rattle.block_tables.specs.Words.{Tables, tablesOf}
+use Rattle.decisions.specs.Decisions.{Decided, clockAfter, decideOf}
 use Rattle.lines.specs.Lines.{endOf}
 use Rattle.offers.specs.declared.Offered.{Offered}
 use Rattle.offers.specs.declared.Offered.the-variants.{Stored, Pending, Known, Refused}
+use Rattle.ordering.specs.Starts.{badInput}
+use Rattle.ordering.specs.declared.Run.{Run}
+use Rattle.ordering.specs.declared.Turn.{Turn}
+use Rattle.ordering.specs.declared.offer.Taken.{Taken}
 use Rattle.stream.specs.Records.{offerOf, includesOf}
 use Rattle.threshold_clock.specs.declared.ThresholdClockAggregator.{ThresholdClockAggregator}
 use Rattle.types.specs.Limits.{referenceWords}
 use Rattle.types.specs.References.{refAt}
 use Rattle.types.specs.Reports.{Report, Gives, Refuses}
 use Rattle.types.specs.declared.reference.BlockReference.{BlockReference}
-use Rattle.decisions.specs.Decisions.{Decided, clockAfter, decideOf}
-use Rattle.ordering.specs.Starts.{badInput}
-use Rattle.ordering.specs.declared.Run.{Run}
-use Rattle.ordering.specs.declared.Turn.{Turn}
-use Rattle.ordering.specs.declared.offer.Taken.{Taken}
 
 -- what the lent areas of a run hold: the tables of both sides, the committed flags, the decision memory
 pub record Kept : Type 0 where

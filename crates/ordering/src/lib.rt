@@ -6,13 +6,9 @@ pub mod start; // the header
 pub mod step; // one step
 
 use committee::Committee;
-pub use decisions::ROWS;
 use threshold_clock::ThresholdClockAggregator;
 use types::AuthorRound;
 use universal_committer::UniversalCommitterOptions;
-
-// The includes of its tables.
-pub const INCLUDES: usize = 256;
 
 // Enough bytes for the lines of any step.
 pub const LINES: usize = 12288;

@@ -4,7 +4,7 @@
 use stream::{Block, Reference};
 
 use crate::requests::{
-    committee_of, reference_words,
+    block_rows, committee_of,
     Argument::{self, Area, Number, Slice},
     Request,
 };
@@ -129,14 +129,7 @@ fn stored_side(blocks: &[Block]) -> Vec<Argument> {
     let row =
         |include: &Reference| blocks.iter().position(|block| block.reference == *include).expect("a block") as u64;
     let includes: Vec<u64> = blocks.iter().flat_map(|block| &block.includes).map(row).collect();
-    let mut words = vec![];
-    let mut first = 0;
-    for block in blocks {
-        words.extend(reference_words(&block.reference));
-        words.extend([first, block.includes.len() as u64]);
-        first += block.includes.len() as u64;
-    }
-    vec![Slice(words), Slice(includes), Number(blocks.len() as u64)]
+    vec![Slice(block_rows(blocks)), Slice(includes), Number(blocks.len() as u64)]
 }
 
 /// Every choice of one number below each of these.

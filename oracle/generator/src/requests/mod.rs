@@ -8,7 +8,7 @@ mod tables;
 
 pub use arguments::{Argument, Request};
 pub use committees::committee_of;
-pub use tables::reference_words;
+pub use tables::{block_rows, reference_words};
 
 use crate::prng::Prng;
 

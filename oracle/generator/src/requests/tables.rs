@@ -181,7 +181,8 @@ pub fn reference_arguments(reference: &Reference) -> Vec<Argument> {
     reference_words(reference).map(Number).to_vec()
 }
 
-fn block_rows(blocks: &[Block]) -> Vec<u64> {
+/// The rows of a block table.
+pub fn block_rows(blocks: &[Block]) -> Vec<u64> {
     let mut words = vec![];
     let mut first = 0;
     for block in blocks {
