@@ -1,10 +1,11 @@
 -- Laws for the functions that test the tables: one for each way round a loop and out of it. Assumes nothing.
 use Prim.Native.Nat.{ℕ, zero, suc, _+_, _-_, _/_, _%_, _≤_, _<_}
-use borrow.Author.Tests.{lt-ltb, le-ltb, le-leb, eq-eqb, ne-eqb, eqb-true, leb-true, ltb-true}
+use borrow.Author.Tests.{lt-ltb, le-ltb, le-leb, eq-eqb, ne-eqb, eqb-true, eqb-false, leb-true, ltb-true}
+use lib.Bits.{bitOr, or-zero-l, or-add-and, and-le-r}
 use lib.Dec.{eqb, ltb, leb}
 use lib.ListN.{length, getD, drop, drop-of-length-le}
 use lib.Seq.{drop-cons, getD-drop}
-use mathlib.Core.Bool.{true, false}
+use mathlib.Core.Bool.{Bool, true, false, _&&_}
 use mathlib.Core.List.{List, [], _∷_, List·Memᴰ, List·Memᴰ·cases-cons, List·Memᴰ·not-nil}
 use mathlib.Core.Logic.{⊎-elim}
 use mathlib.Core.Path.{_≡_, refl, sym, ap, _∙_}
@@ -13,23 +14,35 @@ use native.Mathlib.Omega.{arith}
 use Rattle.block_store.specs.Sound.{startOf, soundSizes, allLower, soundRow, soundRows, zeros}
 use Rattle.block_store.specs.Store.{Store, fieldOf, authorityOf, roundOf, firstOf, countOf, includesOf}
 use Rattle.types.proofs.Below.{all-at, all-more}
-use Rattle.types.proofs.Tests.{both, both-left, both-right, fails, clash}
+use Rattle.types.proofs.Tests.{both, both-left, both-right, fails, clash, by-test}
 use Rattle.types.specs.Below.{allBelow}
 use Rattle.types.specs.Limits.{blockWords, maxBlocks, maxAllIncludes, maxIncludes, roundLimit}
 
 -- ---- zeros
 
-pub zeros-next : (w : List ℕ) (i : ℕ) → i < length w → getD w i 0 ≡ 0 → zeros (drop i w) ≡ zeros (drop (i + 1) w)
-unfolding zeros
-zeros-next w i h e = rw (drop-cons w i 0 h, eq-eqb (getD w i 0) 0 e, add-one) refl
+-- two words are zero exactly if their bits together are
+or-zero : (a b : ℕ) → eqb (bitOr a b) 0 ≡ (eqb a 0 && eqb b 0)
+or-zero a b =
+    by-test (eqb a 0)
+    (λ e. let q = eqb-true a 0 e in rw (e, q, or-zero-l b) refl)
+    (λ e. rw e (ne-eqb (bitOr a b) 0 (λ q. eqb-false a 0 e (let s = or-add-and a b in let l = and-le-r a b in omega arith))))
 
-pub zeros-stop : (w : List ℕ) (i : ℕ) → i < length w → (getD w i 0 ≡ 0 → ⊥) → zeros (drop i w) ≡ false
+-- the bits of the words passed, and the words left
+pub zeros-next : (w : List ℕ) (i bits : ℕ) → i < length w → (eqb bits 0 && zeros (drop i w)) ≡ (eqb (bitOr bits (getD w i 0)) 0 && zeros (drop (i + 1) w))
 unfolding zeros
-zeros-stop w i h e = rw (drop-cons w i 0 h, ne-eqb (getD w i 0) 0 e) refl
+zeros-next w i bits h = rw (drop-cons w i 0 h, or-zero bits (getD w i 0), add-one) (grouped (eqb bits 0) (eqb (getD w i 0) 0) _)
+  where
+    grouped : (a b c : Bool) → (a && (b && c)) ≡ ((a && b) && c)
+    grouped true b c = refl
+    grouped false b c = refl
 
-pub zeros-end : (w : List ℕ) (i : ℕ) → length w ≤ i → zeros (drop i w) ≡ true
+pub zeros-end : (w : List ℕ) (i bits : ℕ) → length w ≤ i → eqb bits 0 ≡ (eqb bits 0 && zeros (drop i w))
 unfolding zeros
-zeros-end w i h = rw (drop-of-length-le w h) refl
+zeros-end w i bits h = rw (drop-of-length-le w h) (last (eqb bits 0))
+  where
+    last : (a : Bool) → a ≡ (a && true)
+    last true = refl
+    last false = refl
 
 pub zeros-at : (l : List ℕ) → zeros l ≡ true → (i : ℕ) → getD l i 0 ≡ 0
 unfolding zeros

@@ -2,20 +2,19 @@
 // and the search for two rows of one reference.
 use crate::distinct::are_distinct;
 use crate::parts::BLOCK_WORDS;
-use crate::parts::authority_at;
-use crate::parts::count_at;
-use crate::parts::first_at;
-use crate::parts::includes_of;
-use crate::parts::round_at;
 pub use index::build::MAX_BLOCKS;
+use index::build::index_references;
 use types::MAX_INCLUDES;
 use types::ROUND_LIMIT;
 use types::words::index;
-use types::words::word;
 ghost use mathlib.Core.Path.{_≡_};
-ghost use Prim.Native.Nat.{_≤_};
-ghost use lib.ListN.{length, drop};
-ghost use Rattle.block_store.specs.Store.{storeOf};
+ghost use mathlib.Core.Bool.{_&&_};
+ghost use Prim.Native.Nat.{_+_, _*_, _≤_, _<_};
+ghost use lib.ListN.{length, drop, replicate};
+ghost use Rattle.index.specs.Keys.{referenceKey};
+ghost use Rattle.index.specs.Places.{hasRoom, orderedRows, frontAfter};
+ghost use Rattle.types.specs.Limits.{blockWords};
+ghost use Rattle.block_store.specs.Store.{storeOf, fieldOf};
 ghost use Rattle.block_store.specs.Sound.{startOf, soundSizes, allLower, soundRow, soundRows, soundButTwins, soundStore, zeros};
 
 // The most includes of a table.
@@ -25,15 +24,13 @@ pub const MAX_ALL_INCLUDES: usize = 1048576;
 pub fn zero_from(w: &[u64], from: usize) -> bool
     ensures { λ r. ⌜ r ≡ zeros (drop from (now (w .entry))) ⌝ }
 {
+    let mut bits = 0;
     let mut i = from;
     while i < w.len() {
-        let x = word(w, i);
+        bits = bits | w[i];
         i += 1;
-        if x != 0 {
-            return false;
-        }
     }
-    true
+    bits == 0
 }
 
 // Whether tables of these lengths have whole rows, within the limits, and at least as many as are used.
@@ -53,19 +50,28 @@ fn sizes_are_sound(blocks: usize, includes: usize, stored: usize) -> bool
     stored <= rows
 }
 
-// Whether each of the rows in a list is below `row` and has a smaller round.
+// Word k of a row that the table has.
+fn cell(blocks: &[u64], row: usize, k: usize) -> u64
+    requires { ⌜ (k < blockWords) × (row * blockWords + blockWords ≤ length (now blocks)) ⌝ }
+    ensures { λ r. ⌜ r ≡ fieldOf (now (blocks .entry)) row k ⌝ }
+{
+    blocks[row * BLOCK_WORDS + k]
+}
+
+// Whether each of the rows in a list is below `row`, which the table has, and has a smaller round.
 fn all_lower(blocks: &[u64], row: usize, list: &[u64]) -> bool
+    requires { ⌜ row * blockWords + blockWords ≤ length (now blocks) ⌝ }
     ensures { λ r. ⌜ r ≡ allLower (now (blocks .entry)) row (now (list .entry)) ⌝ }
 {
-    let round = round_at(blocks, row);
+    let round = cell(blocks, row, 1);
     let mut k = 0;
     while k < list.len() {
-        let lower = index(word(list, k));
+        let lower = index(list[k]);
         k += 1;
         if row <= lower {
             return false;
         }
-        if round.0 <= round_at(blocks, lower).0 {
+        if round <= cell(blocks, lower, 1) {
             return false;
         }
     }
@@ -81,32 +87,34 @@ fn row_is_sound(
     row: usize,
     start: usize,
 ) -> bool
+    requires { ⌜ (row < stored) × (stored * blockWords ≤ length (now blocks)) ⌝ }
     requires { ⌜ start ≡ startOf (storeOf (now blocks) (now includes) stored) row ⌝ }
     requires { ⌜ start ≤ length (now includes) ⌝ }
     ensures { λ r. ⌜ r ≡ soundRow size (storeOf (now (blocks .entry)) (now (includes .entry)) stored) row ⌝ }
 {
-    if size <= authority_at(blocks, row).0 {
+    if size <= cell(blocks, row, 0) {
         return false;
     }
-    if ROUND_LIMIT <= round_at(blocks, row).0 {
+    if ROUND_LIMIT <= cell(blocks, row, 1) {
         return false;
     }
-    let count = count_at(blocks, row);
+    let count = index(cell(blocks, row, 7));
     if MAX_INCLUDES < count {
         return false;
     }
-    if first_at(blocks, row) != start {
+    if index(cell(blocks, row, 6)) != start {
         return false;
     }
     if includes.len() - start < count {
         return false;
     }
-    let list = includes_of(blocks, includes, stored, row);
-    all_lower(blocks, row, list)
+    let end = start + count;
+    all_lower(blocks, row, &includes[start..end])
 }
 
 // Whether each stored row is sound, and no include stands after theirs.
 fn rows_are_sound(size: u64, blocks: &[u64], includes: &[u64], stored: usize) -> bool
+    requires { ⌜ stored * blockWords ≤ length (now blocks) ⌝ }
     ensures { λ r. ⌜ r ≡ soundRows size (storeOf (now (blocks .entry)) (now (includes .entry)) stored) ⌝ }
 {
     let mut start = 0;
@@ -117,7 +125,7 @@ fn rows_are_sound(size: u64, blocks: &[u64], includes: &[u64], stored: usize) ->
         if !row_is_sound(size, blocks, includes, stored, row, start) {
             return false;
         }
-        start += count_at(blocks, row);
+        start += index(cell(blocks, row, 7));
     }
     zero_from(includes, start)
 }
@@ -143,4 +151,24 @@ pub fn store_is_sound(size: u64, blocks: &[u64], includes: &[u64], stored: usize
         return false;
     }
     are_distinct(blocks, stored)
+}
+
+// The same for a call that goes on to look rows up: afterwards the front of `order` has the stored rows in the order of their references, zeros
+// where two share one. Both areas need an entry for each stored row, else nothing happens and the answer is no; those of `work` are zero afterwards.
+pub fn store_is_sound_by(
+    size: u64,
+    blocks: &[u64],
+    includes: &[u64],
+    stored: usize,
+    order: &mut [u16],
+    work: &mut [u16],
+) -> bool
+    ensures { λ r. ⌜ r ≡ (hasRoom stored (length (now (order .entry))) (length (now (work .entry))) && soundStore size (storeOf (now (blocks .entry)) (now (includes .entry)) stored)) ⌝ }
+    ensures order { λ _. ⌜ now (order .exit) ≡ frontAfter (hasRoom stored (length (now (order .entry))) (length (now (work .entry)))) stored (orderedRows (referenceKey (now (blocks .entry))) stored) (now (order .entry)) ⌝ }
+    ensures work { λ _. ⌜ now (work .exit) ≡ frontAfter (hasRoom stored (length (now (order .entry))) (length (now (work .entry)))) stored (replicate stored 0) (now (work .entry)) ⌝ }
+{
+    if !index_references(blocks, stored, order, work) {
+        return false;
+    }
+    store_is_sound_but_twins(size, blocks, includes, stored)
 }

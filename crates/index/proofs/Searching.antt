@@ -1,5 +1,5 @@
 -- The rows in order rise in their keys and have each row, so that halving finds the row of a key. Assumes nothing.
-use Prim.Native.Nat.{ℕ, zero, suc, _+_, _-_, _≤_, _<_, zero-le}
+use Prim.Native.Nat.{ℕ, zero, suc, _+_, _-_, _≤_, _<_}
 use borrow.Author.Tests.{lt-ltb, le-ltb, eq-eqb, ne-eqb, eqb-true, eqb-false}
 use lib.Dec.{eqb}
 use lib.ListN.{length, getD, drop, replicate, length-replicate, List·getD-append}
@@ -8,84 +8,17 @@ use mathlib.Core.List.{List, _++_}
 use mathlib.Core.Logic.{_⊎_, inl, inr, ⊎-elim}
 use mathlib.Core.Path.{_≡_, refl, sym, ap, subst, _∙_}
 use native.Mathlib.Omega.{arith}
-use Rattle.index.proofs.Certificate.{sum-lt, ones, sum-ones, flag-le, place-up, place-below, length-put, put-at}
+use Rattle.index.proofs.Certificate.{place-up, place-below, length-put, put-at}
+use Rattle.index.proofs.Counting.{onto}
 use Rattle.index.proofs.Ordering.{order-trans, two-rows}
 use Rattle.index.proofs.Turns.{room-enough}
 use Rattle.index.specs.Keys.{distinctKeys}
 use Rattle.index.specs.Places.{placeOf, inOrder, hasRoom, orderedRows, frontAfter}
 use Rattle.index.specs.Search.{Indexed, middle, searchIn, rowAtEntry, foundRow}
-use Rattle.types.proofs.Below.{sum-one, any-one, any-false}
 use Rattle.types.proofs.References.{order-equal, order-turned}
 use Rattle.types.proofs.Tests.{both-left, both-right, by-test, clash, tested, lt-or-le}
-use Rattle.types.specs.Below.{sumBelow, anyBelow}
 use Rattle.types.specs.Limits.{maxBlocks}
 use Rattle.types.specs.References.{orderOf}
-use Rattle.types.specs.Reports.{flag}
-
--- ---- n numbers below n, no two the same, are all of them
-
-module _ (f : ℕ → ℕ) (n : ℕ) (low : (a : ℕ) → a < n → f a < n) (one : (a b : ℕ) → a < n → b < n → f a ≡ f b → a ≡ b) where
-  abbrev hit : ℕ → ℕ → ℕ
-  hit k a = flag (eqb (f a) k)
-
-  abbrev hits : ℕ → ℕ → ℕ
-  hits m k = sumBelow (hit k) m
-
-  hit-yes : (k a : ℕ) → f a ≡ k → hit k a ≡ 1
-  hit-yes k a e = rw (eq-eqb (f a) k e) refl
-
-  hit-no : (k a : ℕ) → (f a ≡ k → ⊥) → hit k a ≡ 0
-  hit-no k a e = rw (ne-eqb (f a) k e) refl
-
-  hits-none : (m k : ℕ) → ((a : ℕ) → a < m → f a ≡ k → ⊥) → hits m k ≡ 0
-  unfolding sumBelow
-  hits-none zero k h = refl
-  hits-none (suc m) k h = omega (arith, hits-none m k (λ a l. h a (omega arith)), hit-no k m (h m (omega arith)))
-
-  -- each number at most once
-  hits-once : (m k : ℕ) → m ≤ n → hits m k ≤ 1
-  unfolding sumBelow
-  hits-once zero k h = zero-le
-  hits-once (suc m) k h =
-      by-test (eqb (f m) k)
-      (λ e. let z = hits-none m k (λ a l q. omega (arith, one a m (omega arith) (omega arith) (q ∙ sym (eqb-true (f m) k e)))) in
-      omega (arith, flag-le (eqb (f m) k)))
-      (λ e. omega (arith, hits-once m k (omega arith), hit-no k m (eqb-false (f m) k e)))
-
-  hits-zero : (j : ℕ) → sumBelow (hits 0) j ≡ 0
-  unfolding sumBelow
-  hits-zero zero = refl
-  hits-zero (suc j) = omega (arith, hits-zero j)
-
-  hits-other : (m k : ℕ) → (k ≡ f m → ⊥) → hits (suc m) k ≡ hits m k
-  unfolding sumBelow
-  hits-other m k ne = omega (arith, hit-no k m (λ e. ne (sym e)))
-
-  hits-here : (m : ℕ) → hits (suc m) (f m) ≡ hits m (f m) + 1
-  unfolding sumBelow
-  hits-here m = omega (arith, hit-yes (f m) m refl)
-
-  -- and all together m
-  hits-all : (m : ℕ) → m ≤ n → sumBelow (hits m) n ≡ m
-  hits-all zero h = hits-zero n
-  hits-all (suc m) h =
-      let r = hits-all m (omega arith) in
-      let s = sum-one (hits m) (hits (suc m)) (f m) n (low m (omega arith)) (hits-other m) in
-      omega (arith, hits-here m)
-
-  onto-not : (k : ℕ) → k < n → ((a : ℕ) → a < n → f a ≡ k → ⊥) → ⊥
-  onto-not k h none =
-      let s = sum-lt (hits n) ones n k h (λ j. hits-once n j (omega arith)) (omega (arith, hits-none n k none)) in
-      omega (arith, hits-all n (omega arith), sum-ones n)
-
-  abbrev test : ℕ → ℕ → Bool
-  test k a = eqb (f a) k
-
-  pub onto : (k : ℕ) → k < n → (a : ℕ) × (a < n) × (f a ≡ k)
-  onto k h =
-      by-test (anyBelow (test k) n)
-      (λ e. let r = any-one (test k) n e in (r .0, r .1, eqb-true (f (r .0)) k (r .2)))
-      (λ e. absurd (onto-not k h (λ a l q. clash (eq-eqb (f a) k q) (any-false (test k) n e a l))))
 
 -- ---- the rows in order
 
@@ -112,7 +45,7 @@ module _ (key : ℕ → List ℕ) (n : ℕ) (d : distinctKeys key n ≡ true) wh
 
   module _ (order : List ℕ) (rows : (k : ℕ) → k < n → getD order k 0 ≡ getD (inOrder key n) k 0) where
     -- a row stands at its place
-    entry : (row : ℕ) → row < n → getD order (placeOf key n row) 0 ≡ row
+    pub entry : (row : ℕ) → row < n → getD order (placeOf key n row) 0 ≡ row
     entry row h = rows (placeOf key n row) (place-below key n row h) ∙ row-at-place row h
 
     -- and each entry is a row at its place

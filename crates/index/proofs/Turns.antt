@@ -1,27 +1,33 @@
 -- Laws for the functions: one for each way round a loop and out of it. Assumes nothing.
-use Prim.Native.Nat.{ℕ, suc, _+_, _-_, _*_, _≤_, _<_}
+use Prim.Native.Nat.{ℕ, suc, _+_, _-_, _*_, _/_, _≤_, _<_}
 use borrow.Author.Count.{below-more}
-use borrow.Author.Tests.{lt-ltb, le-ltb, eqb-true, le-leb, lt-leb}
-use lib.Dec.{eqb}
+use borrow.Author.Tests.{lt-ltb, le-ltb, eqb-true, le-leb, lt-leb, eq-eqb, ne-eqb}
+use lib.Dec.{ltb, eqb}
 use lib.ListN.{length, getD, set, replicate, drop, List·getD-eq-default}
+use lib.Seq.{getD-set-same, getD-set-other}
 use mathlib.Core.Bool.{Bool, true, false}
 use mathlib.Core.List.{List, [], _∷_, _++_}
 use mathlib.Core.Logic.{⊎-elim}
 use mathlib.Core.Path.{_≡_, refl, sym, ap, _∙_}
-use native.Mathlib.Nat.{mul-le-mul, le-mul-of-pos-right}
+use native.Mathlib.Nat.{mul-le-mul, mul-le-mul-right, suc-mul, le-mul-of-pos-right}
 use native.Mathlib.Numerals.{add-one}
 use native.Mathlib.Omega.{arith}
-use Rattle.index.specs.Keys.{wordsFrom, keyAt, comesBefore, distinctKeys}
-use Rattle.index.specs.Order.{Rising, PlacedAt}
+use Rattle.index.specs.Keys.{wordsFrom, keyAt, referenceKey, positionKey, comesBefore, distinctKeys}
+use Rattle.index.specs.Order.{RowsRise, Rising, Numbered}
 use Rattle.index.specs.Places.{beforeFlag, placeOf, putRows, inOrder, hasRoom, orderedRows, frontAfter}
-use Rattle.index.specs.Search.{middle, searchIn, rowAtEntry, foundRow}
+use Rattle.index.specs.Search.{middle, searchIn, rowAtEntry, foundRow, placeKey, soughtKey, keyFor}
+use Rattle.index.specs.declared.lookup.Sought.{Sought}
+use Rattle.index.specs.declared.lookup.Sought.the-variants.{Round, Position, Reference}
 use Rattle.types.proofs.Below.{sum-more}
 use Rattle.types.proofs.References.{order-differs, order-same}
-use Rattle.types.proofs.Tests.{lt-or-le}
+use Rattle.types.proofs.Tests.{lt-or-le, by-test}
 use Rattle.types.specs.Below.{sumBelow}
-use Rattle.types.specs.Limits.{maxBlocks}
-use Rattle.types.specs.References.{orderOf, digestWords}
+use Rattle.types.specs.Limits.{maxBlocks, maxAuthorities, blockWords}
+use Rattle.types.specs.References.{orderOf, digestWords, keyOf}
+use Rattle.types.specs.declared.RoundNumber.{RoundNumber}
+use Rattle.types.specs.declared.reference.AuthorRound.{AuthorRound}
 use Rattle.types.specs.declared.reference.BlockDigest.{BlockDigest}
+use Rattle.types.specs.declared.reference.BlockReference.{BlockReference}
 
 -- ---- field
 
@@ -97,10 +103,50 @@ module _ (key : ℕ → List ℕ) (n : ℕ) (p : List ℕ) where
   pub risen-all : (k : ℕ) → Risen key n p k → n ≤ k → Rising key n p
   risen-all k inv h = record { within = λ j l. inv .within j (omega arith); rises = λ j l. inv .rises j (omega arith) }
 
--- ---- is_placed
+-- ---- comes_before
 
-pub place-at : (p q : List ℕ) (n i k x : ℕ) → k ≡ getD q i 0 → k < n → x ≡ getD p k 0 → x ≡ i → PlacedAt n p q i
-place-at p q n i k x ek hk ex ei = rw (← ek) (hk, sym ex ∙ ei)
+-- a row below an eighth of the length stands in the table
+pub row-whole : (row width len : ℕ) → row < len / 8 → width ≤ 8 → row * width + width ≤ len
+row-whole row width len l h =
+    let a : row * width ≤ row * 8 = mul-le-mul {n₁ = row} {m₁ = width} {n₂ = row} {m₂ = 8} (omega arith) h in
+    omega arith
+
+-- ---- rows_rise
+
+-- a row below n stands in a table of n rows
+pub row-in : (row n width len : ℕ) → row < n → n * width ≤ len → row * width + width ≤ len
+row-in row n width len l h =
+    let a : suc row * width ≤ n * width = mul-le-mul-right width l in
+    omega (arith, suc-mul row width)
+
+module _ (key : ℕ → List ℕ) (i : ℕ) (inv : RowsRise key i) where
+  pub rise-next : (t : Bool) → 0 < i → t ≡ comesBefore key (i - 1) i → t ≡ true → RowsRise key (i + 1)
+  unfolding comesBefore
+  rise-next t z et e k h = ⊎-elim (λ l. inv k l) (λ l. last (omega arith)) (lt-or-le (k + 1) i)
+    where
+      last : k + 1 ≡ i → orderOf (key k) (key (k + 1)) ≡ 0
+      last q =
+          let p : k ≡ i - 1 = omega arith in
+          rw (q, p) (eqb-true (orderOf (key (i - 1)) (key i)) 0 (sym et ∙ e))
+
+  pub rise-all : (n : ℕ) → n ≤ i → RowsRise key n
+  rise-all n h k l = inv k (omega arith)
+
+-- ---- digit
+
+-- a rank has room in a word
+pub rank-fits : (x span : ℕ) → x < 4294967296 → span ≤ maxAuthorities → x * span ≤ 4294967296 * maxAuthorities
+rank-fits x span a b = mul-le-mul {n₁ = x} {m₁ = span} {n₂ = 4294967296} {m₂ = maxAuthorities} (omega arith) b
+
+-- ---- number
+
+pub numbered-more : (i x : ℕ) (order order′ : List ℕ) → Numbered i order → i < length order → x ≡ i → order′ ≡ set order i x → Numbered (i + 1) order′
+numbered-more i x order order′ inv h ex e k l =
+    ap (λ (o : List ℕ). getD o k 0) e
+    ∙ ⊎-elim
+    (λ m. getD-set-other order i k x 0 (omega arith) ∙ inv k m)
+    (λ m. let q : k ≡ i = omega arith in ap (λ (j : ℕ). getD (set order i x) j 0) q ∙ getD-set-same order i x 0 h ∙ ex ∙ sym q)
+    (lt-or-le k i)
 
 -- ---- place_of, put_rows
 
@@ -221,19 +267,47 @@ module _ (key : ℕ → List ℕ) (order x : List ℕ) (n place : ℕ) (ep : pla
   unfolding foundRow rowAtEntry
   entry-none h = rw (← ep, le-ltb place n h) refl
 
-  module _ (row : ℕ) (t : Bool) (l : place < n) (er : row ≡ getD order place 0) (et : t ≡ eqb (orderOf (key row) x) 1) where
-    holds : eqb (orderOf (key (getD order place 0)) x) 1 ≡ t
-    holds = sym (et ∙ ap (λ (r : ℕ). eqb (orderOf (key r) x) 1) er)
+  module _ (row o : ℕ) (l : place < n) (er : row ≡ getD order place 0) (eo : o ≡ orderOf (key row) x) where
+    compared : orderOf (key (getD order place 0)) x ≡ o
+    compared = sym (eo ∙ ap (λ (r : ℕ). orderOf (key r) x) er)
 
-    pub entry-other : t ≡ false → n ≡ foundRow key order n x
+    pub entry-other : (o ≡ 1 → ⊥) → n ≡ foundRow key order n x
     unfolding foundRow rowAtEntry
-    entry-other e = rw (← ep, lt-ltb place n l, holds ∙ e) refl
+    entry-other e = rw (← ep, lt-ltb place n l, compared, ne-eqb o 1 e) refl
 
-    pub entry-found : t ≡ true → row ≡ foundRow key order n x
+    pub entry-found : o ≡ 1 → row ≡ foundRow key order n x
     unfolding foundRow rowAtEntry
-    entry-found e = rw (← ep, lt-ltb place n l, holds ∙ e) er
+    entry-found e = rw (← ep, lt-ltb place n l, compared, eq-eqb o 1 e) er
 
--- ---- compare_digest, compare_reference
+-- ---- precedes
+
+-- what has that round or a higher one does not come before the round alone
+pub first-before : (x r : ℕ) (xs : List ℕ) → ltb x r ≡ eqb (orderOf (x ∷ xs) (r ∷ [])) 0
+unfolding orderOf
+first-before x r xs = by-test (ltb x r) (λ e. rw e refl) (λ e. rw e (by-test (ltb r x) (λ f. rw f refl) (λ f. rw f (rest xs))))
+  where
+    rest : (ys : List ℕ) → false ≡ eqb (orderOf ys []) 0
+    rest [] = refl
+    rest (y ∷ ys) = refl
+
+module _ (sought : Sought) (rows : List ℕ) (row : ℕ) where
+  abbrev Told : Bool → Type 0
+  Told t = t ≡ eqb (orderOf (keyFor sought rows row) (soughtKey sought)) 0
+
+  pub before-round : (x : ℕ) (r : RoundNumber) → sought ≡ Round r → x ≡ getD rows (row * blockWords + 1) 0 → Told (ltb x (r .0))
+  unfolding keyAt
+  before-round x r e ex = rw e (ap (λ (y : ℕ). ltb y (r .0)) ex ∙ first-before _ (r .0) _)
+
+  pub before-position : (o : ℕ) (p : AuthorRound) → sought ≡ Position p → o ≡ orderOf (positionKey rows row) (placeKey p) → Told (eqb o 0)
+  before-position o p e eo = rw e (ap (λ (y : ℕ). eqb y 0) eo)
+
+  pub before-reference : (o : ℕ) (x : BlockReference) → sought ≡ Reference x → o ≡ orderOf (referenceKey rows row) (keyOf x) → Told (eqb o 0)
+  before-reference o x e eo = rw e (ap (λ (y : ℕ). eqb y 0) eo)
+
+-- ---- compare_position, compare_digest, compare_reference
+
+pub ends : (x y v : ℕ) → x ≡ v → orderOf (x ∷ []) (y ∷ []) ≡ orderOf (v ∷ []) (y ∷ [])
+ends x y v e = ap (λ (z : ℕ). orderOf (z ∷ []) (y ∷ [])) e
 
 module _ (w : List ℕ) (at : ℕ) (d : BlockDigest) where
   abbrev four : List ℕ

@@ -1,23 +1,28 @@
 // Two rows compared by their keys: by round, then authority, then the words behind them.
+use types::AuthorRound;
 use types::BlockDigest;
 use types::BlockReference;
 use types::words::word;
 ghost use mathlib.Core.Path.{_≡_};
+ghost use mathlib.Core.Bool.{true};
 ghost use mathlib.Core.List.{[], _∷_};
 ghost use Prim.Native.Nat.{_+_, _-_, _*_, _≤_, _<_};
-ghost use lib.Dec.{eqb};
-ghost use lib.ListN.{getD};
+ghost use lib.ListN.{length, getD};
 ghost use Rattle.types.specs.Limits.{blockWords, referenceWords};
 ghost use Rattle.types.specs.References.{orderOf, digestWords, keyOf};
-ghost use Rattle.index.specs.Keys.{wordsFrom, keyAt, referenceKey, comesBefore, sharesKey};
+ghost use Rattle.index.specs.Keys.{wordsFrom, keyAt, referenceKey, positionKey, comesBefore, sharesKey};
+ghost use Rattle.index.specs.Search.{placeKey};
 
 // The words of a block's row: authority, round, digest, first include, include count.
 pub const BLOCK_WORDS: usize = 8;
 
-// How two keys stand to each other.
-const LESS: u64 = 0;
+// The words of a status row: authority, round, kind, block row.
+pub const STATUS_WORDS: usize = 4;
 
-const EQUAL: u64 = 1;
+// How two keys stand to each other.
+pub(crate) const LESS: u64 = 0;
+
+pub(crate) const EQUAL: u64 = 1;
 
 const GREATER: u64 = 2;
 
@@ -31,6 +36,22 @@ fn field(rows: &[u64], width: usize, row: usize, k: usize) -> u64
     } else {
         0
     }
+}
+
+// Whether a table has n whole rows.
+pub(crate) fn has_rows(rows: &[u64], width: usize, n: usize) -> bool
+    requires { ⌜ 0 < width ⌝ }
+    ensures { λ r. ⌜ (r ≡ true → n * width ≤ length (now (rows .entry))) ⌝ }
+{
+    n <= rows.len() / width
+}
+
+// Word k of a row that the table has whole.
+pub(crate) fn cell(rows: &[u64], width: usize, row: usize, k: usize) -> u64
+    requires { ⌜ (k < width) × (row * width + width ≤ length (now rows)) ⌝ }
+    ensures { λ r. ⌜ r ≡ getD (now (rows .entry)) (row * width + k) 0 ⌝ }
+{
+    rows[row * width + k]
 }
 
 // Two numbers compared.
@@ -104,7 +125,7 @@ fn compare_digest(blocks: &[u64], row: usize, digest: BlockDigest) -> u64
 }
 
 // The reference of a block's row and another compared.
-fn compare_reference(blocks: &[u64], row: usize, x: BlockReference) -> u64
+pub(crate) fn compare_reference(blocks: &[u64], row: usize, x: BlockReference) -> u64
     ensures { λ r. ⌜ r ≡ orderOf (referenceKey (now (blocks .entry)) row) (keyOf x) ⌝ }
 {
     let round = field(blocks, BLOCK_WORDS, row, 1);
@@ -118,26 +139,57 @@ fn compare_reference(blocks: &[u64], row: usize, x: BlockReference) -> u64
     compare_digest(blocks, row, x.digest)
 }
 
-// Whether a block's row comes before a reference.
-pub(crate) fn precedes(blocks: &[u64], row: usize, x: BlockReference) -> bool
-    ensures { λ r. ⌜ r ≡ eqb (orderOf (referenceKey (now (blocks .entry)) row) (keyOf x)) 0 ⌝ }
+// The round of a block's row.
+pub(crate) fn round_at(blocks: &[u64], row: usize) -> u64
+    ensures { λ r. ⌜ r ≡ getD (now (blocks .entry)) (row * blockWords + 1) 0 ⌝ }
 {
-    compare_reference(blocks, row, x) == LESS
+    field(blocks, BLOCK_WORDS, row, 1)
 }
 
-// Whether a block's row has a reference.
-pub(crate) fn has_reference(blocks: &[u64], row: usize, x: BlockReference) -> bool
-    ensures { λ r. ⌜ r ≡ eqb (orderOf (referenceKey (now (blocks .entry)) row) (keyOf x)) 1 ⌝ }
+// The position of a status row and another compared.
+pub(crate) fn compare_position(rows: &[u64], row: usize, place: AuthorRound) -> u64
+    ensures { λ r. ⌜ r ≡ orderOf (positionKey (now (rows .entry)) row) (placeKey place) ⌝ }
 {
-    compare_reference(blocks, row, x) == EQUAL
+    let round = field(rows, STATUS_WORDS, row, 1);
+    if round != place.round.0 {
+        return compare_words(round, place.round.0);
+    }
+    let authority = field(rows, STATUS_WORDS, row, 0);
+    compare_words(authority, place.authority.0)
 }
 
-// Whether row a comes before row b.
-pub(crate) fn comes_before(rows: &[u64], width: usize, more: usize, a: usize, b: usize) -> bool
-    requires { ⌜ (0 < width) × (width ≤ 8) × (more ≤ 6) ⌝ }
+// Whether row a comes before row b, both of which the table has whole.
+pub(crate) fn is_before(rows: &[u64], width: usize, more: usize, a: usize, b: usize) -> bool
+    requires { ⌜ (1 < width) × (width ≤ 8) × (more ≤ 6) ⌝ }
+    requires { ⌜ (a * width + width ≤ length (now rows)) × (b * width + width ≤ length (now rows)) ⌝ }
     ensures { λ r. ⌜ r ≡ comesBefore (keyAt width more (now (rows .entry))) a b ⌝ }
 {
-    compare(rows, width, more, a, b) == LESS
+    let round = cell(rows, width, a, 1);
+    let other_round = cell(rows, width, b, 1);
+    if round != other_round {
+        return compare_words(round, other_round) == LESS;
+    }
+    let authority = cell(rows, width, a, 0);
+    let other_authority = cell(rows, width, b, 0);
+    if authority != other_authority {
+        return compare_words(authority, other_authority) == LESS;
+    }
+    compare_more(rows, width, more, a, b) == LESS
+}
+
+// Whether row a comes before row b. Most tables are long enough for both to be read at once.
+pub(crate) fn comes_before(rows: &[u64], width: usize, more: usize, a: usize, b: usize) -> bool
+    requires { ⌜ (1 < width) × (width ≤ 8) × (more ≤ 6) ⌝ }
+    ensures { λ r. ⌜ r ≡ comesBefore (keyAt width more (now (rows .entry))) a b ⌝ }
+{
+    let whole = rows.len() / BLOCK_WORDS;
+    if whole <= a {
+        return compare(rows, width, more, a, b) == LESS;
+    }
+    if whole <= b {
+        return compare(rows, width, more, a, b) == LESS;
+    }
+    is_before(rows, width, more, a, b)
 }
 
 // Whether two rows have one key.

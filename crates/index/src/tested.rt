@@ -1,16 +1,37 @@
-// The test of what a sort gives: it has each row, and keys rise from entry to entry.
+// The tests: of a table whether its rows rise as they stand, of what a sort gives whether keys rise from entry to entry.
 use crate::keys::comes_before;
+use crate::keys::has_rows;
+use crate::keys::is_before;
 use crate::keys::shares_key;
-use crate::sorting::row_at;
+use crate::lookup::row_at;
 ghost use mathlib.Core.Path.{_≡_};
 ghost use mathlib.Core.Bool.{true, false};
 ghost use Prim.Native.Nat.{_≤_, _<_};
 ghost use Rattle.index.specs.Keys.{keyAt, distinctKeys};
-ghost use Rattle.index.specs.Order.{Rising, Placed};
+ghost use Rattle.index.specs.Order.{RowsRise, Rising};
+
+// Whether a table has n rows, and each comes after the one before it.
+pub(crate) fn rows_rise(rows: &[u64], width: usize, more: usize, n: usize) -> bool
+    requires { ⌜ (1 < width) × (width ≤ 8) × (more ≤ 6) ⌝ }
+    ensures { λ r. ⌜ (r ≡ true → RowsRise (keyAt width more (now (rows .entry))) n) ⌝ }
+{
+    if !has_rows(rows, width, n) {
+        return false;
+    }
+    let mut i = 1;
+    while i < n {
+        let row = i;
+        i += 1;
+        if !is_before(rows, width, more, row - 1, row) {
+            return false;
+        }
+    }
+    true
+}
 
 // Whether the first n entries are rows below n, and their keys rise.
 pub(crate) fn is_rising(rows: &[u64], width: usize, more: usize, order: &[u16], n: usize) -> bool
-    requires { ⌜ (0 < width) × (width ≤ 8) × (more ≤ 6) ⌝ }
+    requires { ⌜ (1 < width) × (width ≤ 8) × (more ≤ 6) ⌝ }
     ensures { λ r. ⌜ (r ≡ true → Rising (keyAt width more (now (rows .entry))) n (now (order .entry))) ⌝ }
 {
     let mut i = 0;
@@ -31,28 +52,9 @@ pub(crate) fn is_rising(rows: &[u64], width: usize, more: usize, order: &[u16], 
     true
 }
 
-// Whether each of the first n rows stands where `places` says.
-pub(crate) fn is_placed(order: &[u16], places: &[u16], n: usize) -> bool
-    ensures { λ r. ⌜ (r ≡ true → Placed n (now (order .entry)) (now (places .entry))) ⌝ }
-{
-    let mut i = 0;
-    while i < n {
-        let row = i;
-        i += 1;
-        let place = row_at(places, row);
-        if n <= place {
-            return false;
-        }
-        if row_at(order, place) != row {
-            return false;
-        }
-    }
-    true
-}
-
 // Whether two neighbours are two rows of one key.
 pub(crate) fn has_twins(rows: &[u64], width: usize, more: usize, order: &[u16], n: usize) -> bool
-    requires { ⌜ (0 < width) × (width ≤ 8) × (more ≤ 6) ⌝ }
+    requires { ⌜ (1 < width) × (width ≤ 8) × (more ≤ 6) ⌝ }
     ensures { λ r. ⌜ (r ≡ true → distinctKeys (keyAt width more (now (rows .entry))) n ≡ false) ⌝ }
 {
     let mut i = 1;

@@ -23,20 +23,26 @@ add-i : tie.Need-add-i Inv-loop μ-loop
 add-i c = search needs
 
 row-is-sound-requires : tie.Need-row-is-sound-requires Inv-loop μ-loop
-row-is-sound-requires c κs = (c .before .loop .inv .1, c .before .loop .inv .2)
+row-is-sound-requires c κs = ((c .loop-test .taken, c .before .before .before .before .pre), (c .before .loop .inv .1, c .before .loop .inv .2))
 
 returns : tie.Need-returns Inv-loop μ-loop
 returns c =
     let a = c .before .before .before .before .before .before .args in
     row-stops (a .size) (storeOf (a .blocks .now) (a .includes .now) (a .stored)) (c .before .before .before .loop .i) (c .before .before .loop-test .taken) (sym (c .before .row-is-sound .ensures) ∙ not-true _ (c .if1 .taken))
 
-count-at-requires : tie.Need-count-at-requires Inv-loop μ-loop
-count-at-requires c κs = search needs
+cell-requires : tie.Need-cell-requires Inv-loop μ-loop
+cell-requires c κs =
+    let below = c .before .before .loop-test .taken in
+    let rows = c .before .before .before .before .before .before .pre in
+    (omega arith, omega (arith, below, rows))
+
+index-requires : tie.Need-index-requires Inv-loop μ-loop
+index-requires c κs = search needs
 
 add-start : tie.Need-add-start Inv-loop μ-loop
 add-start c =
-    let a = c .before .before .before .before .before .before .before .args in
-    let p = passed-more (a .size) (storeOf (a .blocks .now) (a .includes .now) (a .stored)) (c .before .before .before .before .loop .start) (c .before .before .before .before .loop .i) _ (c .before .before .before .before .loop .inv) (c .before .before .before .loop-test .taken) (sym (c .before .before .row-is-sound .ensures) ∙ not-false _ (c .before .if1 .left)) (c .count-at .ensures) in
+    let a = c .before .before .before .before .before .before .before .before .args in
+    let p = passed-more (a .size) (storeOf (a .blocks .now) (a .includes .now) (a .stored)) (c .before .before .before .before .before .loop .start) (c .before .before .before .before .before .loop .i) _ (c .before .before .before .before .before .loop .inv) (c .before .before .before .before .loop-test .taken) (sym (c .before .before .before .row-is-sound .ensures) ∙ not-false _ (c .before .before .if1 .left)) (c .index .ensures ∙ c .before .cell .ensures) in
     omega (arith, p .2)
 
 loop-less : tie.Need-loop-less Inv-loop μ-loop
@@ -44,8 +50,8 @@ loop-less c = search needs
 
 loop-again : tie.Need-loop-again Inv-loop μ-loop
 loop-again c =
-    let a = c .before .before .before .before .before .before .before .args in
-    passed-more (a .size) (storeOf (a .blocks .now) (a .includes .now) (a .stored)) (c .before .before .before .before .loop .start) (c .before .before .before .before .loop .i) _ (c .before .before .before .before .loop .inv) (c .before .before .before .loop-test .taken) (sym (c .before .before .row-is-sound .ensures) ∙ not-false _ (c .before .if1 .left)) (c .count-at .ensures)
+    let a = c .before .before .before .before .before .before .before .before .args in
+    passed-more (a .size) (storeOf (a .blocks .now) (a .includes .now) (a .stored)) (c .before .before .before .before .before .loop .start) (c .before .before .before .before .before .loop .i) _ (c .before .before .before .before .before .loop .inv) (c .before .before .before .before .loop-test .taken) (sym (c .before .before .before .row-is-sound .ensures) ∙ not-false _ (c .before .before .if1 .left)) (c .index .ensures ∙ c .before .cell .ensures)
 
 zero-from-requires : tie.Need-zero-from-requires Inv-loop μ-loop
 zero-from-requires c κs = search needs
@@ -65,7 +71,8 @@ rows-are-sound-spec =
     add-i
     row-is-sound-requires
     returns
-    count-at-requires
+    cell-requires
+    index-requires
     add-start
     loop-less
     loop-again

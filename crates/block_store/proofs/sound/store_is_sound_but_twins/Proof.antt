@@ -17,7 +17,10 @@ unfolding soundButTwins
 returns c = rw (sym (c .before .sizes-are-sound .ensures) ∙ not-true _ (c .if1 .taken)) refl
 
 rows-are-sound-requires : tie.Need-rows-are-sound-requires
-rows-are-sound-requires c κs = search needs
+rows-are-sound-requires c κs =
+    let a = c .before .before .before .before .args in
+    let z = sized (length (a .blocks .now)) (length (a .includes .now)) (a .stored) (sym (c .before .sizes-are-sound .ensures) ∙ not-false _ (c .if1 .left)) in
+    omega (arith, z .rows-used)
 
 returns-2 : tie.Need-returns-2
 unfolding soundButTwins

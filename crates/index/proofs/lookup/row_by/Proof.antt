@@ -1,6 +1,5 @@
 -- By whether the entry is one of the n, and has the reference. Assumes nothing.
 use borrow.Author.Needs.{needs}
-use borrow.Author.Tests.{not-true, not-false}
 use Rattle.index.proofs.Turns.{entry-none, entry-other, entry-found}
 use Rattle.index.specs.Keys.{referenceKey}
 use Rattle.types.specs.References.{keyOf}
@@ -16,16 +15,16 @@ returns c = entry-none (referenceKey (c .before .before .before .before .args .b
 row-at-requires : tie.Need-row-at-requires
 row-at-requires c κs = search needs
 
-has-reference-requires : tie.Need-has-reference-requires
-has-reference-requires c κs = search needs
+compare-reference-requires : tie.Need-compare-reference-requires
+compare-reference-requires c κs = search needs
 
 returns-2 : tie.Need-returns-2
-returns-2 c = entry-other (referenceKey (c .before .before .before .before .before .before .before .args .blocks .now)) (c .before .before .before .before .before .before .before .args .order .now) (keyOf (c .before .before .before .before .before .before .before .args .x)) (c .before .before .before .before .before .before .before .args .n) _ (c .before .before .before .before .entry-of .ensures) _ _ (c .before .before .before .if1 .left) (c .before .before .row-at .ensures) (c .before .has-reference .ensures) (not-true _ (c .if2 .taken))
+returns-2 c = entry-other (referenceKey (c .before .before .before .before .before .before .before .args .blocks .now)) (c .before .before .before .before .before .before .before .args .order .now) (keyOf (c .before .before .before .before .before .before .before .args .x)) (c .before .before .before .before .before .before .before .args .n) _ (c .before .before .before .before .entry-of .ensures) _ _ (c .before .before .before .if1 .left) (c .before .before .row-at .ensures) (c .before .compare-reference .ensures) (c .if2 .taken)
 
 returns-3 : tie.Need-returns-3
-returns-3 c = entry-found (referenceKey (c .before .before .before .before .before .before .before .args .blocks .now)) (c .before .before .before .before .before .before .before .args .order .now) (keyOf (c .before .before .before .before .before .before .before .args .x)) (c .before .before .before .before .before .before .before .args .n) _ (c .before .before .before .before .entry-of .ensures) _ _ (c .before .before .before .if1 .left) (c .before .before .row-at .ensures) (c .before .has-reference .ensures) (not-false _ (c .if2 .left))
+returns-3 c = entry-found (referenceKey (c .before .before .before .before .before .before .before .args .blocks .now)) (c .before .before .before .before .before .before .before .args .order .now) (keyOf (c .before .before .before .before .before .before .before .args .x)) (c .before .before .before .before .before .before .before .args .n) _ (c .before .before .before .before .entry-of .ensures) _ _ (c .before .before .before .if1 .left) (c .before .before .row-at .ensures) (c .before .compare-reference .ensures) (c .if2 .left)
 
 pub row-by-spec : {M : Type 1} → statement M
 row-by-spec =
     tie.close
-    (tie.spec entry-of-requires returns row-at-requires has-reference-requires returns-2 returns-3)
+    (tie.spec entry-of-requires returns row-at-requires compare-reference-requires returns-2 returns-3)
