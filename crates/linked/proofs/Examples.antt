@@ -1,11 +1,12 @@
 -- Worked examples: the definitions compute what the Rust gives.
 use Prim.Native.Nat.{ℕ}
+use lib.ListN.{replicate}
 use mathlib.Core.Bool.{true, false}
 use mathlib.Core.List.{List, [], _∷_}
 use mathlib.Core.Path.{_≡_, refl}
 use Rattle.block_store.specs.Sound.{soundSizes, soundRow, differ, newRow, distinctRows, zeros, soundRows, soundStore}
 use Rattle.block_store.specs.Store.{Store, storeOf, fieldOf, includesOf}
-use Rattle.linked.specs.Linked.{ofRound, parentOf, lower, parentsAt, linked, linkedIn, linkedAnswer}
+use Rattle.linked.specs.Linked.{ofRound, parentOf, lower, parentsAt, linked, linkedIn, linkedDown, flagsBelow, linkedMarks, linkedAnswer}
 use Rattle.types.specs.Below.{allBelow, anyBelow}
 use Rattle.types.specs.References.{sameDigest, same, refAt}
 use Rattle.types.specs.Reports.{Refuses, says}
@@ -49,6 +50,11 @@ level = (refl, refl, refl, refl, refl, refl)
 part : (linkedIn dag 8 8 0 ≡ false) × (linkedIn dag 8 5 8 ≡ false) × (linkedIn dag 7 5 0 ≡ false) × (linkedIn dag 8 5 0 ≡ true)
 unfolding linkedIn linked parentsAt lower parentOf ofRound anyBelow includesOf fieldOf
 part = (refl, refl, refl, refl)
+
+-- the marks of row 5: down to round 0, down to round 1, above its round; none for a row that is no stored one or with too few work bytes
+marks : (linkedMarks dag 9 5 0 ≡ 1 ∷ 0 ∷ 1 ∷ 0 ∷ 0 ∷ 1 ∷ 0 ∷ 0 ∷ 0 ∷ []) × (linkedMarks dag 8 5 1 ≡ 0 ∷ 0 ∷ 1 ∷ 0 ∷ 0 ∷ 1 ∷ 0 ∷ 0 ∷ []) × (linkedMarks dag 8 5 3 ≡ replicate 8 0) × (linkedMarks dag 9 8 0 ≡ replicate 9 0) × (linkedMarks dag 7 5 0 ≡ replicate 7 0)
+unfolding linkedMarks flagsBelow linkedDown linkedIn linked parentsAt lower parentOf ofRound anyBelow includesOf fieldOf
+marks = (refl, refl, refl, refl, refl)
 
 -- the call: the same, and tables that are not sound (a row more than is stored, one less)
 call : (linkedAnswer dag 8 5 0 ≡ says true) × (linkedAnswer dag 8 5 1 ≡ says false) × (linkedAnswer dag 0 8 0 ≡ Refuses 4) × (linkedAnswer dag 7 5 0 ≡ Refuses 8) × (linkedAnswer (record { blocks = dag .blocks; includes = dag .includes; count = 7 }) 8 5 0 ≡ Refuses 3)

@@ -1,24 +1,27 @@
--- Laws of `linked`: its start from one marked row, its end, and what the part and the call answer in each case.
-use Prim.Native.Nat.{ℕ, zero, suc, _-_, _<_, _≤_}
-use borrow.Author.Tests.{lt-ltb, le-ltb, le-leb, lt-leb, eq-eqb, eqb-true, eqb-false}
+-- Laws of `linked`: what the parts answer where there is nothing to mark, the start from one marked row, the end, and what the call answers in each case.
+use Prim.Native.Nat.{ℕ, _-_, _<_, _≤_}
+use borrow.Author.Tests.{lt-ltb, le-ltb, le-leb, lt-leb, eq-eqb, ne-eqb, eqb-true, eqb-false}
 use lib.Dec.{eqb}
 use lib.ListN.{length, getD, set, replicate, length-replicate}
-use lib.Seq.{getD-set-same, getD-set-other}
-use mathlib.Core.Bool.{Bool, true, false, _&&_}
+use lib.Seq.{getD-set-same, getD-set-other, ext-getD}
+use mathlib.Core.Bool.{Bool, true, false, cond, _&&_}
 use mathlib.Core.List.{List}
+use mathlib.Core.Logic.{⊎-elim}
 use mathlib.Core.Path.{_≡_, refl, sym, ap, _∙_, fun-ext}
 use native.Mathlib.Nat.{lt-irrefl}
 use native.Mathlib.Omega.{arith}
 use Rattle.block_store.specs.Sound.{soundStore}
 use Rattle.block_store.specs.Store.{Store, storeOf, fieldOf, roundOf}
-use Rattle.linked.proofs.Marking.{of-round-in}
+use Rattle.linked.proofs.Area.{marks-length, marks-at, down-in, down-below}
+use Rattle.linked.proofs.Marking.{zeros-at, of-round-in, of-round-out}
 use Rattle.linked.proofs.Queueing.{marks-more}
-use Rattle.linked.specs.Linked.{ofRound, parentsAt, linked, linkedIn, linkedAnswer}
+use Rattle.linked.proofs.Stretches.{not-parent, by-round, reached-above, reached-within}
+use Rattle.linked.specs.Linked.{ofRound, parentsAt, linked, linkedIn, linkedDown, linkedMarks, linkedAnswer}
 use Rattle.linked.specs.Marks.{keptAt, Clean, Reached}
 use Rattle.linked.specs.Queue.{Alone}
-use Rattle.types.proofs.Tests.{by-test, and-false}
+use Rattle.types.proofs.Tests.{by-test, and-false, lt-or-le}
 use Rattle.types.specs.Limits.{maxAuthorities}
-use Rattle.types.specs.Reports.{Refuses, says}
+use Rattle.types.specs.Reports.{Refuses, flag, says}
 
 -- a block that is not above the earlier one is linked exactly if it is that row
 pub linked-level : (s : Store) (later earlier : ℕ) → roundOf s later ≤ roundOf s earlier → linked s later earlier ≡ eqb later earlier
@@ -27,12 +30,53 @@ linked-level s later earlier h =
     let q : roundOf s later - roundOf s earlier ≡ 0 = omega arith in
     rw q refl
 
--- ---- the start: one row marked, in an area of zeros
-zeros-at : (m b : ℕ) → _≡_ {A = ℕ} (getD (replicate m 0) b 0) 0
-zeros-at zero b = refl
-zeros-at (suc m) zero = refl
-zeros-at (suc m) (suc b) = zeros-at m b
+-- ---- linked rows, in a work area with a byte for each stored row
+module _ (s : Store) (room later earlier : ℕ) where
+  pub no-later : s .count ≤ later → false ≡ linkedIn s room later earlier
+  unfolding linkedIn
+  no-later h = rw (le-ltb later (s .count) h) refl
 
+  pub no-earlier : s .count ≤ earlier → false ≡ linkedIn s room later earlier
+  unfolding linkedIn
+  no-earlier h = rw (le-ltb earlier (s .count) h, and-false) refl
+
+  pub no-room : room < s .count → false ≡ linkedIn s room later earlier
+  unfolding linkedIn
+  no-room h = rw (lt-leb (s .count) room h, and-false, and-false) refl
+
+  -- of two stored rows, in a work area with room for the stored rows, the part's answer is `linked`
+  pub linked-in : later < s .count → earlier < s .count → s .count ≤ room → linkedIn s room later earlier ≡ linked s later earlier
+  unfolding linkedIn
+  linked-in hl he h = rw (lt-ltb later (s .count) hl, lt-ltb earlier (s .count) he, le-leb (s .count) room h) refl
+
+-- another row that is no lower is not linked to
+pub not-linked-up : (s : Store) (room later b : ℕ) → roundOf s later ≤ roundOf s b → eqb later b ≡ false → linkedIn s room later b ≡ false
+unfolding linkedIn
+not-linked-up s room later b h t = rw (linked-level s later b h, t, and-false, and-false, and-false) refl
+
+-- ---- nothing to mark: no later row, no room, or a round above the later block's
+module _ (s : Store) (room later low : ℕ) where
+  none-down : ((b : ℕ) → low ≤ roundOf s b → false ≡ linkedIn s room later b) → (b : ℕ) → linkedDown s room later low b ≡ false
+  none-down h b =
+      ⊎-elim (down-below s room later low b) (λ l. down-in s room later low b l ∙ sym (h b l)) (lt-or-le (roundOf s b) low)
+
+  marks-none : ((b : ℕ) → low ≤ roundOf s b → false ≡ linkedIn s room later b) → (w : List ℕ) → w ≡ replicate room 0 → w ≡ linkedMarks s room later low
+  marks-none h w ew =
+      ew
+      ∙ ext-getD 0 (replicate room 0) (linkedMarks s room later low) (length-replicate {A = ℕ} room 0 ∙ sym (marks-length s room later low))
+      (λ b l. zeros-at room b ∙ sym (marks-at s room later low b ∙ ap flag (none-down h b)))
+
+  module _ (w : List ℕ) (ew : w ≡ replicate room 0) where
+    pub marks-no-later : s .count ≤ later → w ≡ linkedMarks s room later low
+    marks-no-later h = marks-none (λ b l. no-later s room later b h) w ew
+
+    pub marks-no-room : room < s .count → w ≡ linkedMarks s room later low
+    marks-no-room h = marks-none (λ b l. no-room s room later b h) w ew
+
+    pub marks-too-low : (u : ℕ) → u ≡ roundOf s later → u < low → w ≡ linkedMarks s room later low
+    marks-too-low u eu h = marks-none (λ b l. sym (not-linked-up s room later b (omega arith) (ne-eqb later b (λ q. omega (arith, ap (roundOf s) q))))) w ew
+
+-- ---- the start: one row marked, in an area of zeros
 module _ (bs : List ℕ) (n later : ℕ) (w : List ℕ) (room : ℕ) (ew : w ≡ replicate room 0) (row : later < n) (long : n ≤ room) where
   marked-at : (b : ℕ) → (b ≡ later → ⊥) → getD (set w later 1) b 0 ≡ 0
   marked-at b h = getD-set-other w later b 1 0 h ∙ rw ew (zeros-at room b)
@@ -63,40 +107,52 @@ module _ (bs : List ℕ) (n later : ℕ) (w : List ℕ) (room : ℕ) (ew : w ≡
         marked = omega (arith, marks-more w n later (omega arith) row (λ e. omega arith));
       }
 
-  -- the end: what is kept in the earlier block's round
-  pub reached-linked : (is : List ℕ) (t : Bool) (e u l : ℕ) (w′ : List ℕ) → u ≡ fieldOf bs later 1 → l ≡ fieldOf bs e 1
-      → Reached (storeOf bs is n) u l (set w later 1) w′ → t ≡ keptAt bs n l w′ e → t ≡ linked (storeOf bs is n) later e
-  unfolding linked
-  reached-linked is t e u l w′ eu el reached et =
-      et
-      ∙ reached .kept e
-      ∙ rw (eu, el) (ap (λ (p : ℕ → Bool). parentsAt (storeOf bs is n) (fieldOf bs e 1) (fieldOf bs later 1 - fieldOf bs e 1) p e) (fun-ext start-kept))
+  -- ---- the end: each byte by its round
+  module _ (is : List ℕ) (u l : ℕ) (eu : u ≡ fieldOf bs later 1) where
+    abbrev s : Store
+    s = storeOf bs is n
 
--- ---- what the part answers
-module _ (s : Store) (room later earlier : ℕ) where
-  pub no-later : s .count ≤ later → false ≡ linkedIn s room later earlier
-  unfolding linkedIn
-  no-later h = rw (le-ltb later (s .count) h) refl
+    told : (b : ℕ) → b < n → linkedIn s room later b ≡ linked s later b
+    told b h = linked-in s room later b row h long
 
-  pub no-earlier : s .count ≤ earlier → false ≡ linkedIn s room later earlier
-  unfolding linkedIn
-  no-earlier h = rw (le-ltb earlier (s .count) h, and-false) refl
+    linked-kept : (b : ℕ) → roundOf s b < u → parentsAt s (roundOf s b) (u - roundOf s b) (keptAt bs n u (set w later 1)) b ≡ linkedIn s room later b
+    unfolding linked
+    linked-kept b h =
+        ⊎-elim
+        (λ hb. rw eu (ap (λ (p : ℕ → Bool). parentsAt s (roundOf s b) (fieldOf bs later 1 - roundOf s b) p b) (fun-ext start-kept)) ∙ sym (told b hb))
+        (λ hb.
+        not-parent s u (roundOf s b) (set w later 1) (omega arith) b (sym (of-round-out bs n (roundOf s b) b hb))
+        ∙ no-earlier s room later b hb)
+        (lt-or-le b n)
 
-  pub no-room : room < s .count → false ≡ linkedIn s room later earlier
-  unfolding linkedIn
-  no-room h = rw (lt-leb (s .count) room h, and-false, and-false) refl
+    linked-above : (b : ℕ) → u ≤ roundOf s b → getD (set w later 1) b 0 ≡ flag (linkedIn s room later b)
+    linked-above b h =
+        by-test (eqb later b)
+        (λ t.
+        let q : later ≡ b = eqb-true later b t in
+        rw (← q, told later row, linked-level s later later (omega arith), eq-eqb later later refl)
+        (getD-set-same w later 1 0 (rw (ew, length-replicate {A = ℕ} room 0) (omega arith))))
+        (λ t. marked-at b (λ q. eqb-false later b t (sym q)) ∙ ap flag (sym (not-linked-up s room later b (omega arith) t)))
 
-  -- of two stored rows, in a work area with room for the stored rows, the part's answer is `linked`
-  pub linked-in : later < s .count → earlier < s .count → s .count ≤ room → linkedIn s room later earlier ≡ linked s later earlier
-  unfolding linkedIn
-  linked-in hl he h = rw (lt-ltb later (s .count) hl, lt-ltb earlier (s .count) he, le-leb (s .count) room h) refl
+    one-or : (t : Bool) → cond t 1 0 ≡ flag t
+    one-or true = refl
+    one-or false = refl
 
-  module _ (hl : later < s .count) (he : earlier < s .count) (h : s .count ≤ room) where
-    pub level-in : (u l : ℕ) → u ≡ roundOf s later → l ≡ roundOf s earlier → u ≤ l → eqb later earlier ≡ linkedIn s room later earlier
-    level-in u l eu el le = sym (linked-in hl he h ∙ linked-level s later earlier (omega arith))
+    abbrev start : ℕ → Bool
+    start = keptAt bs n u (set w later 1)
 
-    pub above-in : (t : Bool) → t ≡ linked s later earlier → t ≡ linkedIn s room later earlier
-    above-in t et = et ∙ sym (linked-in hl he h)
+    module _ (w′ : List ℕ) (reached : Reached s u l (set w later 1) w′) where
+      byte-is : (b : ℕ) → getD w′ b 0 ≡ flag (linkedDown s room later l b)
+      unfolding Clean
+      byte-is b =
+          by-round s u l b
+          (λ h. reached .clean b h ∙ ap flag (sym (down-below s room later l b h)))
+          (λ h d. reached .marked b ∙ rw (reached-within s u l start b h d, linked-kept b d, down-in s room later l b h, marked-at b (λ q. omega (arith, ap (roundOf s) q))) (one-or (linkedIn s room later b)))
+          (λ h d. reached .marked b ∙ rw (reached-above s u l start b d, down-in s room later l b h) (linked-above b d))
+
+      pub reached-marks : length w′ ≡ room → w′ ≡ linkedMarks s room later l
+      reached-marks len =
+          ext-getD 0 w′ (linkedMarks s room later l) (len ∙ sym (marks-length s room later l)) (λ b h. byte-is b ∙ sym (marks-at s room later l b))
 
 -- ---- what the call answers
 module _ (s : Store) (room later earlier : ℕ) where

@@ -1,8 +1,8 @@
 -- Laws of the marks: the tests of a row as the code makes them, and the loops that mark, each with a law for the start, a turn and the end.
-use Prim.Native.Nat.{ℕ, suc, _+_, _<_, _≤_}
+use Prim.Native.Nat.{ℕ, zero, suc, _+_, _<_, _≤_}
 use borrow.Author.Tests.{lt-ltb, le-ltb, ltb-true, eq-eqb, ne-eqb, eqb-true, eqb-false}
 use lib.Dec.{ltb, eqb}
-use lib.ListN.{length, getD, drop, set, drop-of-length-le}
+use lib.ListN.{length, getD, drop, set, replicate, drop-of-length-le}
 use lib.Seq.{drop-cons, getD-set-same, getD-set-other, set-out}
 use mathlib.Core.Bool.{Bool, true, false, cond, _&&_, _||_}
 use mathlib.Core.List.{List, _∷_}
@@ -10,11 +10,17 @@ use mathlib.Core.Path.{_≡_, refl, sym, _∙_}
 use native.Mathlib.Numerals.{add-one}
 use native.Mathlib.Omega.{arith}
 use Rattle.block_store.specs.Store.{storeOf, fieldOf, includesOf}
-use Rattle.types.proofs.Below.{any-zero, any-suc}
 use Rattle.linked.specs.Linked.{contains, ofRound, parentOf, lower}
 use Rattle.linked.specs.Marks.{keptAt}
+use Rattle.types.proofs.Below.{any-zero, any-suc}
 use Rattle.types.proofs.Tests.{by-test, both-left, both-right, and-false}
 use Rattle.types.specs.Below.{anyBelow}
+
+-- ---- an area of zeros
+pub zeros-at : (m b : ℕ) → _≡_ {A = ℕ} (getD (replicate m 0) b 0) 0
+zeros-at zero b = refl
+zeros-at (suc m) zero = refl
+zeros-at (suc m) (suc b) = zeros-at m b
 
 -- ---- a row of a round
 pub of-round-in : (bs : List ℕ) (n round row r : ℕ) → r ≡ fieldOf bs row 1 → row < n → eqb r round ≡ ofRound bs n round row
@@ -107,6 +113,16 @@ mark-next bs n round l w₀ w w′ i x inv long h ex len ew = (
 pub mark-done : (bs : List ℕ) (n round : ℕ) (l w₀ w : List ℕ) (i : ℕ) → MarkFrom bs n round l w₀ w i → length l ≤ i
     → (b : ℕ) → getD w b 0 ≡ cond (ofRound bs n round b && contains b l) 1 (getD w₀ b 0)
 mark-done bs n round l w₀ w i inv h b = simp (drop-of-length-le l h, and-false) at (inv .2 b)
+
+-- every row of the round is marked: no more of the list changes anything
+marked-already : (o a : Bool) (z : ℕ) → (o ≡ true → z ≡ 1) → z ≡ cond (o && a) 1 z
+marked-already true true z h = h refl
+marked-already true false z h = refl
+marked-already false a z h = refl
+
+pub mark-full : (bs : List ℕ) (n round : ℕ) (l w₀ w : List ℕ) (i : ℕ) → MarkFrom bs n round l w₀ w i → ((b : ℕ) → ofRound bs n round b ≡ true → getD w b 0 ≡ 1)
+    → (b : ℕ) → getD w b 0 ≡ cond (ofRound bs n round b && contains b l) 1 (getD w₀ b 0)
+mark-full bs n round l w₀ w i inv full b = marked-already (ofRound bs n round b) (contains b (drop i l)) (getD w b 0) (full b) ∙ inv .2 b
 
 -- ---- mark_lower: what the rows before k have marked
 abbrev pub LowFrom : List ℕ → List ℕ → ℕ → ℕ → ℕ → List ℕ → List ℕ → ℕ → Type 0

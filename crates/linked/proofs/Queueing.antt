@@ -4,14 +4,16 @@ use borrow.Author.Tests.{le-leb, lt-leb, ne-eqb, eqb-true, eqb-false}
 use lib.Dec.{leb, eqb}
 use lib.ListN.{length, getD, set}
 use lib.Seq.{getD-set-same, getD-set-other, set-getD}
-use mathlib.Core.Bool.{Bool, true, false, cond, _&&_}
+use mathlib.Core.Bool.{Bool, true, false, cond, _&&_, false≢true}
 use mathlib.Core.List.{List}
 use mathlib.Core.Logic.{_⊎_, inl, inr, ⊎-elim}
 use mathlib.Core.Path.{_≡_, refl, sym, ap, _∙_}
 use native.Mathlib.Omega.{arith}
 use Rattle.block_store.specs.Store.{Store, storeOf, includesOf}
-use Rattle.linked.proofs.Marking.{row-of, kept-above, marked-twice, or-false}
+use Rattle.linked.proofs.Counting.{kept-more, all-marked, stop-after}
+use Rattle.linked.proofs.Marking.{row-of, MarkFrom, mark-next, mark-full, kept-above, marked-twice, or-false}
 use Rattle.linked.proofs.Stretches.{clean-empty}
+use Rattle.linked.specs.Counts.{Stop}
 use Rattle.linked.specs.Linked.{contains, ofRound, parentOf, lower}
 use Rattle.linked.specs.Marks.{keptAt, Clean, Empty}
 use Rattle.linked.specs.Queue.{markOf, marks, Stands, Room, Taken, Held, Alone}
@@ -44,7 +46,7 @@ marks-more w n x long h not =
 
 -- ---- rows taken: none, some and then more
 pub taken-none : (bs : List ℕ) (n round : ℕ) (w q : List ℕ) (end : ℕ) → end ≤ marks w n → Taken bs n round w q end w q end
-taken-none bs n round w q end h = record { further = omega arith; room = h; front = λ k l. refl; fresh = λ b e. inl e }
+taken-none bs n round w q end h = record { further = omega arith; room = h; grown = omega arith; front = λ k l. refl; fresh = λ b e. inl e }
 
 module _ (bs : List ℕ) (n round : ℕ) (w q : List ℕ) (end : ℕ) (w′ q′ : List ℕ) (end′ : ℕ) (w″ q″ : List ℕ) (end″ : ℕ)
     (first : Taken bs n round w q end w′ q′ end′) (rest : Taken bs n round w′ q′ end′ w″ q″ end″) where
@@ -61,6 +63,7 @@ module _ (bs : List ℕ) (n round : ℕ) (w q : List ℕ) (end : ℕ) (w′ q′
       record {
         further = omega (arith, first .further, rest .further);
         room = rest .room;
+        grown = omega (arith, first .grown, rest .grown);
         front = λ k l. rest .front k (omega (arith, first .further)) ∙ first .front k l;
         fresh =
             λ b e.
@@ -77,12 +80,9 @@ marked-before bs n round w row x ex e =
     by-test (ofRound bs n round row) (λ o. rw o (sym same)) (λ o. rw o refl)
 
 module _ (bs : List ℕ) (n round : ℕ) (w q : List ℕ) (end row : ℕ) (room : Room n w q end)
-    (t : Bool) (et : t ≡ ofRound bs n round row) (ok : t ≡ true) (x : ℕ) (ex : x ≡ getD w row 0) (not : x ≡ 1 → ⊥) where
+    (t : Bool) (et : t ≡ ofRound bs n round row) (ok : t ≡ true) (unmarked : getD w row 0 ≡ 1 → ⊥) where
   taken-row : row < n
   taken-row = row-of bs n round row (sym et ∙ ok)
-
-  unmarked : getD w row 0 ≡ 1 → ⊥
-  unmarked e = not (ex ∙ e)
 
   -- there is an entry left for it
   pub taken-entry : end < length q
@@ -102,9 +102,34 @@ module _ (bs : List ℕ) (n round : ℕ) (w q : List ℕ) (end row : ℕ) (room 
         record {
           further = omega arith;
           room = omega (arith, marks-more w n row (room .0) taken-row unmarked, room .3);
+          grown = omega (arith, kept-more bs n round w row (room .0) (sym et ∙ ok) unmarked);
           front = λ k l. getD-set-other q end k y 0 (λ e. omega arith);
           fresh = put-fresh;
         }
+
+-- ---- take_list: what is left to mark, over what is marked, and the rows taken so far
+module _ (bs : List ℕ) (n round : ℕ) (l w₀ q₀ : List ℕ) (end : ℕ) where
+  abbrev pub ListFrom : List ℕ → List ℕ → ℕ → ℕ → Type 0
+  ListFrom w q last i = (length q ≡ length q₀) × Taken bs n round w₀ q₀ end w q last × MarkFrom bs n round l w₀ w i
+
+  module _ (w q : List ℕ) (last i row x : ℕ) (inv : ListFrom w q last i) (long : n ≤ length w₀) (h : i < length l) (er : row ≡ getD l i 0) (ex : x ≡ getD w row 0) where
+    pub list-pass : x ≡ 1 → ListFrom w q last (i + 1)
+    list-pass e =
+        (inv .0, inv .1, mark-next bs n round l w₀ w w i row (inv .2) long h er refl (marked-before bs n round w row x ex e))
+
+    pub list-take : (w′ q′ : List ℕ) (last′ : ℕ) → length w′ ≡ length w → length q′ ≡ length q → w′ ≡ cond (ofRound bs n round row) (set w row 1) w
+        → Taken bs n round w q last w′ q′ last′ → ListFrom w′ q′ last′ (i + 1)
+    list-take w′ q′ last′ lw lq ew taken = (
+      lq ∙ inv .0,
+      taken-then bs n round w₀ q₀ end w q last w′ q′ last′ (inv .1) taken,
+      mark-next bs n round l w₀ w w′ i row (inv .2) long h er lw ew,
+    )
+
+  -- every row of the round is marked
+  pub list-full : (w q : List ℕ) (last i stop : ℕ) → ListFrom w q last i → Stop bs n round w₀ end stop → stop ≤ last
+      → (b : ℕ) → getD w b 0 ≡ cond (ofRound bs n round b && contains b l) 1 (getD w₀ b 0)
+  list-full w q last i stop inv stops le =
+      mark-full bs n round l w₀ w i (inv .2) (all-marked bs n round w last stop (stop-after bs n round w₀ end stop last w stops (inv .1 .grown)) le)
 
 -- ---- take_lower: what the entries before k of the window have marked
 module _ (bs is : List ℕ) (n upper low : ℕ) (w₀ q₀ : List ℕ) (start end₀ : ℕ) where
@@ -191,6 +216,25 @@ module _ (bs is : List ℕ) (n upper low : ℕ) (w₀ q₀ : List ℕ) (start en
       → (b : ℕ) → getD w b 0 ≡ cond (lower (storeOf bs is n) low (keptAt bs n upper w₀) b) 1 (getD w₀ b 0)
   unfolding lower
   queue-done w q end k all inv past b = rw (queue-whole all k past b) at (inv .4 b)
+
+  -- every row of the lower round is marked: no more of the window changes anything
+  more-marked : (o a a′ : Bool) (z z₀ : ℕ) → (a ≡ true → a′ ≡ true) → (o ≡ true → z ≡ 1) → z ≡ cond (o && a) 1 z₀ → z ≡ cond (o && a′) 1 z₀
+  more-marked true a true z z₀ f h e = h refl
+  more-marked true true false z z₀ f h e = absurd (false≢true (f refl))
+  more-marked true false false z z₀ f h e = e
+  more-marked false a a′ z z₀ f h e = e
+
+  pub queue-full : (w q : List ℕ) (end k stop : ℕ) → ((b : ℕ) → keptAt bs n upper w₀ b ≡ true → Stands q₀ start end₀ b) → QueueFrom w q end k → k < end₀
+      → Stop bs n low w₀ end₀ stop → stop ≤ end → (b : ℕ) → getD w b 0 ≡ cond (lower (storeOf bs is n) low (keptAt bs n upper w₀) b) 1 (getD w₀ b 0)
+  unfolding lower
+  queue-full w q end k stop all inv h stops le b =
+      more-marked (ofRound bs n low b) (anyBelow (queued b) k) (anyBelow (parentOf (storeOf bs is n) (keptAt bs n upper w₀) b) n) (getD w b 0) (getD w₀ b 0)
+      (λ e. sym (queue-whole all end₀ (omega arith) b) ∙ later e)
+      (all-marked bs n low w end stop (stop-after bs n low w₀ end₀ stop end w stops (inv .3 .grown)) le b)
+      (inv .4 b)
+    where
+      later : anyBelow (queued b) k ≡ true → anyBelow (queued b) end₀ ≡ true
+      later e = let found = any-one (queued b) k e in any-at (queued b) end₀ (found .0) (omega (arith, found .1)) (found .2)
 
 -- ---- keep_lower: what is held in the lower round
 module _ (s : Store) (upper low : ℕ) (w q : List ℕ) (end : ℕ) (lt : low < upper) (clean : Clean (s .blocks) upper w) where

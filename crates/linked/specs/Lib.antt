@@ -1,4 +1,5 @@
 pub mod Linked
 pub mod Marks
+pub mod Counts
 pub mod Queue
 pub mod Paths

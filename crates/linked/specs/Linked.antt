@@ -2,12 +2,12 @@
 use Prim.Native.Nat.{ℕ, zero, suc, _+_, _-_}
 use lib.Dec.{leb, ltb, eqb}
 use mathlib.Core.Bool.{Bool, false, cond, _&&_, _||_}
-use mathlib.Core.List.{List, [], _∷_}
+use mathlib.Core.List.{List, [], _∷_, _++_}
 use Rattle.block_store.specs.Sound.{soundStore}
 use Rattle.block_store.specs.Store.{Store, fieldOf, roundOf, includesOf}
 use Rattle.types.specs.Below.{anyBelow}
 use Rattle.types.specs.Limits.{maxAuthorities}
-use Rattle.types.specs.Reports.{Report, Refuses, says}
+use Rattle.types.specs.Reports.{Report, Refuses, flag, says}
 
 -- the row stands in the list
 abbrev pub contains : ℕ → List ℕ → Bool
@@ -39,6 +39,19 @@ linked s later earlier = parentsAt s (roundOf s earlier) (roundOf s later - roun
 unfoldable pub linkedIn : Store → ℕ → ℕ → ℕ → Bool
 linkedIn s room later earlier =
     ltb later (s .count) && (ltb earlier (s .count) && (leb (s .count) room && linked s later earlier))
+
+-- the row is of the round `low` or above, and the later block is linked to it
+unfoldable pub linkedDown : Store → ℕ → ℕ → ℕ → ℕ → Bool
+linkedDown s room later low b = leb low (roundOf s b) && linkedIn s room later b
+
+-- a byte for each number below n: 1 where it has p, else 0
+unfoldable pub flagsBelow : (ℕ → Bool) → ℕ → List ℕ
+flagsBelow p zero = []
+flagsBelow p (suc n) = flagsBelow p n ++ (flag (p n) ∷ [])
+
+-- the work area with a mark for each row to which the later block is linked, down to the round `low`
+unfoldable pub linkedMarks : Store → ℕ → ℕ → ℕ → List ℕ
+linkedMarks s room later low = flagsBelow (linkedDown s room later low) room
 
 -- what the call answers: unsound tables 3, a row that is no stored one 4, fewer work bytes than stored rows 8, else yes or no
 unfoldable pub linkedAnswer : Store → ℕ → ℕ → ℕ → Report

@@ -1,11 +1,12 @@
 -- What the queue of `linked` says: the rows kept in a round stand in a stretch of it. Assumes nothing: these are definitions.
-use Prim.Native.Nat.{ℕ, _<_, _≤_}
+use Prim.Native.Nat.{ℕ, _+_, _<_, _≤_}
 use lib.Dec.{eqb}
 use lib.ListN.{length, getD}
 use mathlib.Core.Bool.{true, cond}
 use mathlib.Core.List.{List}
 use mathlib.Core.Logic.{_⊎_}
 use mathlib.Core.Path.{_≡_}
+use Rattle.linked.specs.Counts.{keptIn}
 use Rattle.linked.specs.Marks.{keptAt, Empty}
 use Rattle.types.specs.Below.{sumBelow}
 use Rattle.types.specs.Limits.{maxBlocks}
@@ -30,6 +31,7 @@ Room n w q end = (n ≤ length w) × (n ≤ length q) × (length q ≤ maxBlocks
 pub record Taken (blocks : List ℕ) (count round : ℕ) (w q : List ℕ) (end : ℕ) (w′ q′ : List ℕ) (end′ : ℕ) : Type 0 where
   pub further : end ≤ end′
   pub room : end′ ≤ marks w′ count
+  pub grown : end′ + keptIn blocks count round w ≤ end + keptIn blocks count round w′
   pub front : (k : ℕ) → k < end → getD q′ k 0 ≡ getD q k 0
   pub fresh : (b : ℕ) → keptAt blocks count round w′ b ≡ true → (keptAt blocks count round w b ≡ true) ⊎ Stands q′ end end′ b
 

@@ -3,6 +3,7 @@ use crate::marks::is_kept;
 use crate::marks::of_round;
 use crate::marks::scan_lower;
 use block_store::parts::includes_of;
+use index::lookup::row_at;
 use types::RoundNumber;
 use types::words::byte;
 use types::words::index;
@@ -12,6 +13,7 @@ ghost use Prim.Native.Nat.{ℕ, _+_, _<_, _≤_};
 ghost use lib.ListN.{length, getD, set};
 ghost use Rattle.types.specs.Limits.{maxBlocks};
 ghost use Rattle.block_store.specs.Store.{storeOf};
+ghost use Rattle.linked.specs.Counts.{rowsIn, Stop};
 ghost use Rattle.linked.specs.Linked.{contains, ofRound, lower};
 ghost use Rattle.linked.specs.Marks.{keptAt, Clean, Reached};
 ghost use Rattle.linked.specs.Queue.{Room, Stands, Taken, Held};
@@ -30,17 +32,6 @@ fn narrow(row: usize) -> u16
     row as u16
 }
 
-// The row at an entry of the queue, 0 past the end.
-fn row_at(queue: &[u16], k: usize) -> usize
-    ensures { λ r. ⌜ r ≡ getD (now (queue .entry)) k 0 ⌝ }
-{
-    if k < queue.len() {
-        queue[k] as usize
-    } else {
-        0
-    }
-}
-
 // Puts a row first in a queue with an entry for every row; its window is that entry.
 pub(crate) fn begin(queue: &mut [u16], stored: usize, row: usize) -> Window
     requires { ⌜ (row < stored) × (length (now queue) ≤ maxBlocks) ⌝ }
@@ -55,7 +46,7 @@ pub(crate) fn begin(queue: &mut [u16], stored: usize, row: usize) -> Window
     first
 }
 
-// Marks a row of that round which is not marked yet, and puts it at the end of the queue; gives the queue's end.
+// Marks a row that is not marked yet, if it is of that round, and puts it at the end of the queue; gives the queue's end.
 fn take(
     blocks: &[u64],
     stored: usize,
@@ -66,12 +57,10 @@ fn take(
     work: &mut [u8],
 ) -> usize
     requires { ⌜ Room stored (now work) (now queue) end ⌝ }
+    requires { ⌜ (getD (now work) row 0 ≡ 1 → ⊥) ⌝ }
     ensures { λ _. ⌜ now (work .exit) ≡ cond (ofRound (now (blocks .entry)) stored (round .0) row) (set (now (work .entry)) row 1) (now (work .entry)) ⌝ }
     ensures { λ r. ⌜ Taken (now (blocks .entry)) stored (round .0) (now (work .entry)) (now (queue .entry)) end (now (work .exit)) (now (queue .exit)) r ⌝ }
 {
-    if byte(&work[..], row) == 1 {
-        return end;
-    }
     if !of_round(blocks, stored, round, row) {
         return end;
     }
@@ -80,7 +69,7 @@ fn take(
     end + 1
 }
 
-// Takes the rows of that round which stand in a list; gives the queue's end.
+// Takes the rows of that round which stand in a list, and looks no further where the queue's end is at `stop`; gives the queue's end.
 fn take_list(
     blocks: &[u64],
     stored: usize,
@@ -88,22 +77,31 @@ fn take_list(
     list: &[u64],
     queue: &mut [u16],
     end: usize,
+    stop: usize,
     work: &mut [u8],
 ) -> usize
     requires { ⌜ Room stored (now work) (now queue) end ⌝ }
+    requires { ⌜ Stop (now blocks) stored (round .0) (now work) end stop ⌝ }
     ensures { λ _. ⌜ ((b : ℕ) → getD (now (work .exit)) b 0 ≡ cond (ofRound (now (blocks .entry)) stored (round .0) b && contains b (now (list .entry))) 1 (getD (now (work .entry)) b 0)) ⌝ }
     ensures { λ r. ⌜ Taken (now (blocks .entry)) stored (round .0) (now (work .entry)) (now (queue .entry)) end (now (work .exit)) (now (queue .exit)) r ⌝ }
 {
     let mut last = end;
     let mut i = 0;
     while i < list.len() {
-        last = take(blocks, stored, round, index(list[i]), queue, last, work);
+        let row = index(list[i]);
         i += 1;
+        if byte(&work[..], row) != 1 {
+            last = take(blocks, stored, round, row, queue, last, work);
+            if stop <= last {
+                return last;
+            }
+        }
     }
     last
 }
 
-// Takes the rows of the round `low` which a row of the window includes that is kept in the round `upper`; gives the queue's end.
+// Takes the rows of the round `low` which a row of the window includes that is kept in the round `upper`, and looks no further where the
+// queue's end is at `stop`; gives the queue's end.
 fn take_lower(
     blocks: &[u64],
     includes: &[u64],
@@ -112,9 +110,11 @@ fn take_lower(
     low: RoundNumber,
     queue: &mut [u16],
     window: Window,
+    stop: usize,
     work: &mut [u8],
 ) -> usize
     requires { ⌜ Room stored (now work) (now queue) (window .end) ⌝ }
+    requires { ⌜ Stop (now blocks) stored (low .0) (now work) (window .end) stop ⌝ }
     requires { ⌜ low .0 < upper .0 ⌝ }
     requires { ⌜ ((b : ℕ) → keptAt (now blocks) stored (upper .0) (now work) b ≡ true → Stands (now queue) (window .start) (window .end) b) ⌝ }
     ensures { λ _. ⌜ ((b : ℕ) → getD (now (work .exit)) b 0 ≡ cond (lower (storeOf (now (blocks .entry)) (now (includes .entry)) stored) (low .0) (keptAt (now (blocks .entry)) stored (upper .0) (now (work .entry))) b) 1 (getD (now (work .entry)) b 0)) ⌝ }
@@ -123,30 +123,35 @@ fn take_lower(
     let mut last = window.end;
     let mut k = window.start;
     while k < window.end {
+        if stop <= last {
+            return last;
+        }
         let row = row_at(&queue[..], k);
         k += 1;
         if is_kept(blocks, stored, upper, &work[..], row) {
             let list = includes_of(blocks, includes, stored, row);
-            last = take_list(blocks, stored, low, list, queue, last, work);
+            last = take_list(blocks, stored, low, list, queue, last, stop, work);
         }
     }
     last
 }
 
-// The step from the rows kept in the round `upper` to the round `low` below it, and the window of the rows kept there. Where the table has more
-// rows than the queue, which no sound one has, the step looks at every row.
+// The step from the rows kept in the round `upper` to the round `low` below it, which has at most `most` rows, and the window of the rows kept
+// there. Where the table has more rows than the queue, which no sound one has, the step looks at every row.
 pub(crate) fn keep_lower(
     blocks: &[u64],
     includes: &[u64],
     stored: usize,
     upper: RoundNumber,
     low: RoundNumber,
+    most: usize,
     queue: &mut [u16],
     window: Window,
     work: &mut [u8],
 ) -> Window
     requires { ⌜ (stored ≤ length (now work)) × (length (now queue) ≤ maxBlocks) ⌝ }
     requires { ⌜ upper .0 ≡ low .0 + 1 ⌝ }
+    requires { ⌜ (most ≤ stored) × (rowsIn (now blocks) stored (low .0) ≤ most) ⌝ }
     requires { ⌜ Clean (now blocks) (upper .0) (now work) ⌝ }
     requires { ⌜ Held (now blocks) stored (upper .0) (now work) (now queue) (window .start) (window .end) ⌝ }
     ensures { λ r. ⌜ Reached (storeOf (now (blocks .entry)) (now (includes .entry)) stored) (upper .0) (low .0) (now (work .entry)) (now (work .exit)) ⌝ }
@@ -161,7 +166,18 @@ pub(crate) fn keep_lower(
         }
         return Window { start: 0, end: 0 };
     }
-    let last = take_lower(blocks, includes, stored, upper, low, queue, window, work);
+    let stop = window.end + most;
+    let last = take_lower(
+        blocks,
+        includes,
+        stored,
+        upper,
+        low,
+        queue,
+        window,
+        stop,
+        work,
+    );
     Window {
         start: window.end,
         end: last,

@@ -9,7 +9,7 @@ slice-aggregate-step-from c = search needs
 
 step-from-requires : tie.Need-step-from-requires
 step-from-requires c κs =
-    let start = c .before .before .before .before .before in
+    let start = c .before .before .before .before .before .before in
     ((start .pre .0, omega arith), start .pre .1)
 
 same-length : tie.Need-same-length

@@ -11,10 +11,11 @@ begin-requires c κs = search needs
 step-back-requires : tie.Need-step-back-requires
 step-back-requires c κs =
     let at-begin = c .before .before .before .before in
-    let start = at-begin .before .before .before .before .before .before in
+    let start = at-begin .before .before .before .before .before .before .before in
     let a = start .args in
-    let held = held-one (a .blocks .now) (a .stored) (a .upper .0) (a .work .now) (a .queue .now) (at-begin .begin .last .0) (a .later) (start .pre .1 .1 .1) (at-begin .begin .kept .0) (at-begin .begin .ensures .1) in
-    ((start .pre .0 .0, omega (arith, start .pre .0 .1, at-begin .begin .kept .0)), (start .pre .1 .0, (start .pre .1 .1 .0, rw (at-begin .begin .ensures .0) held)))
+    let pre = start .pre in
+    let held = held-one (a .blocks .now) (a .stored) (a .upper .0) (a .work .now) (a .queue .now) (at-begin .begin .last .0) (a .later) (pre .1 .1 .1 .1) (at-begin .begin .kept .0) (at-begin .begin .ensures .1) in
+    ((pre .0 .0, omega (arith, pre .0 .1, at-begin .begin .kept .0)), (pre .1 .0, (pre .1 .1 .0, (pre .1 .1 .1 .0, rw (at-begin .begin .ensures .0) held))))
 
 same-length : tie.Need-same-length
 same-length c = search needs
