@@ -7,20 +7,25 @@ use mathlib.Core.Bool.{true, false}
 use mathlib.Core.List.{List, [], _∷_, _++_}
 use mathlib.Core.Path.{_≡_, refl, sym, ap, _∙_, subst}
 use native.Mathlib.Omega.{arith}
-use Rattle.block_manager.specs.Call.{answerOf, addBlock, tablesAfter, CanOffer, CanEnter}
+use Rattle.block_manager.specs.Call.{answerOf, addBlock, tablesAfter, answerBy, tablesBy, CanOffer, CanEnter}
 use Rattle.block_tables.proofs.Climbing.{resize, unresize}
+use Rattle.block_tables.proofs.Growing.{front-kept}
 use Rattle.block_tables.proofs.Holding.{length-refsIn, row-found, refs-of-rows}
+use Rattle.block_tables.proofs.Lookups.{whole-front}
 use Rattle.block_tables.proofs.Moving.{state-is, sized, unsized}
 use Rattle.block_tables.proofs.Reading.{held-all}
 use Rattle.block_tables.proofs.Soundness.{holds-encode}
 use Rattle.block_tables.proofs.State.{tested-holds, tested-sound}
+use Rattle.block_tables.proofs.Testing.{and-yes}
 use Rattle.block_tables.specs.Holding.{StoredAs, PendingAs, Holds, CanStore, CanWait, CanClimb, blockOf, stateIn}
-use Rattle.block_tables.specs.Reading.{allAmong}
+use Rattle.block_tables.specs.Reading.{allAmong, FrontIndexed}
 use Rattle.block_tables.specs.Sound.{countsIn, limitsOf, soundTables, limitsIn}
 use Rattle.block_tables.specs.Words.{refRows, Tables, encode, tablesOf}
 use Rattle.block_tables.specs.declared.Counts.{Counts}
 use Rattle.committee.specs.Committees.{soundOf}
 use Rattle.committee.specs.declared.Committee.{Committee}
+use Rattle.index.specs.Keys.{referenceKey}
+use Rattle.index.specs.Search.{Indexed}
 use Rattle.offers.proofs.Climb.{has-rowOf}
 use Rattle.offers.proofs.Sound.{enter-loop, included-append, included-one}
 use Rattle.offers.specs.Blocks.{Block, State, has, held, isKnown, included}
@@ -29,6 +34,7 @@ use Rattle.offers.specs.Exact.{firstAt}
 use Rattle.offers.specs.Offers.{Limits, Outcome, reportedOffer, full, goodArgument, wait, enter, offer}
 use Rattle.offers.specs.declared.Offered.{Offered}
 use Rattle.offers.specs.declared.Offered.the-variants.{Refused, Known, Pending, Stored}
+use Rattle.types.proofs.Tests.{and-false}
 use Rattle.types.specs.References.{refsIn}
 use Rattle.types.specs.declared.reference.BlockReference.{BlockReference}
 use Rattle.types.specs.declared.refusal.Refusal.the-variants.{BadCommittee, BadTable, BadArgument, Full}
@@ -227,6 +233,13 @@ module _ (size B R : ℕ) (blocks includes waiting named : List ℕ) (c : Counts
           one-row = omega arith;
         }
 
+    -- the rows before it are still in order
+    pub front-first : (order : List ℕ) → Indexed (referenceKey blocks) (c .stored) order → FrontIndexed blocks' order (c .stored + 1 - 1) (c .stored + 1)
+    front-first order ix =
+        let e : c .stored ≡ c .stored + 1 - 1 = omega arith in
+        subst (λ (k : ℕ). FrontIndexed blocks' order k (c .stored + 1)) e
+        (front-kept B R blocks includes (c .stored) (c .included) (st0 .stored) (m .can-offer .holds .stored-side) blocks' includes' (c .stored + 1) (c .included + length list / 6) new-block s order (c .stored) (whole-front blocks order (c .stored) ix))
+
     pub now-entered : (blocks'' includes'' waiting'' named'' : List ℕ) (d : Counts)
         → Holds (length blocks' / 8) (length includes') blocks'' includes'' waiting'' named'' d (climb (2 * c .pending + 1) (c .stored + 1 - 1) (c .stored + 1) (stateIn blocks' includes' waiting named start))
         → Holds B R blocks'' includes'' waiting'' named'' d (enter st0 new-block)
@@ -242,6 +255,36 @@ module _ (size B R : ℕ) (blocks includes waiting named : List ℕ) (c : Counts
         subst (λ (t : State). Holds B R blocks'' includes'' waiting'' named'' d t) same
         (unresize B R blocks' includes' waiting named start first-state first-holds blocks'' includes'' waiting'' named'' d (climb (2 * c .pending + 1) (c .stored + 1 - 1) (c .stored + 1) (stateIn blocks' includes' waiting named start)) h)
 
+-- ---- the call past the tests of committee and list
+
+module _ (size : ℕ) (t : Tables) (x : BlockReference) (list : List ℕ) where
+  pub by-tables : soundTables size t ≡ false → (Refused BadTable ≡ answerBy size t x list) × (t ≡ tablesBy size t x list)
+  unfolding answerBy tablesBy
+  by-tables f = (rw f refl, rw f refl)
+
+  module _ (f : soundTables size t ≡ true) (d : Counts) (ed : d ≡ countsIn (t .blocks) (t .stored) (t .waiting) (t .pending)) where
+    pub stored-now : (order : List ℕ) → Indexed (referenceKey (t .blocks)) (t .stored) order → Indexed (referenceKey (t .blocks)) (d .stored) order
+    stored-now order = subst (λ (k : Counts). Indexed (referenceKey (t .blocks)) (k .stored) order) (sym ed)
+
+    pub pending-now : (others : List ℕ) → Indexed (referenceKey (t .waiting)) (t .pending) others → Indexed (referenceKey (t .waiting)) (d .pending) others
+    pending-now others = subst (λ (k : Counts). Indexed (referenceKey (t .waiting)) (k .pending) others) (sym ed)
+
+    pub can-offer-now : length list % 6 ≡ 0 → CanOffer size (length (t .blocks) / 8) (length (t .includes)) (t .blocks) (t .includes) (t .waiting) (t .named) d list
+    can-offer-now whole =
+        subst (λ (k : Counts). CanOffer size (length (t .blocks) / 8) (length (t .includes)) (t .blocks) (t .includes) (t .waiting) (t .named) k list) (sym ed)
+        (record { holds = tested-holds size t f; sound = tested-sound size t f; whole = whole })
+
+    pub by-done : (a : Offered) (after : Tables)
+        → a ≡ offer (limitsIn size t) (stateIn (t .blocks) (t .includes) (t .waiting) (t .named) d) (blockOf x list) .answer
+        → after ≡ encode (length (t .blocks) / 8) (length (t .includes)) (offer (limitsIn size t) (stateIn (t .blocks) (t .includes) (t .waiting) (t .named) d) (blockOf x list) .state)
+        → (a ≡ answerBy size t x list) × (after ≡ tablesBy size t x list)
+    unfolding answerBy tablesBy
+    by-done a after ea et =
+        let state : stateIn (t .blocks) (t .includes) (t .waiting) (t .named) d ≡ stateIn (t .blocks) (t .includes) (t .waiting) (t .named) (countsIn (t .blocks) (t .stored) (t .waiting) (t .pending)) = ap (stateIn (t .blocks) (t .includes) (t .waiting) (t .named)) ed in (
+          ea ∙ ap (λ (s : State). offer (limitsIn size t) s (blockOf x list) .answer) state ∙ rw f refl,
+          et ∙ ap (λ (s : State). encode (length (t .blocks) / 8) (length (t .includes)) (offer (limitsIn size t) s (blockOf x list) .state)) state ∙ rw f refl,
+        )
+
 -- ---- the call
 
 module _ (c : Committee) (t : Tables) (x : BlockReference) (list : List ℕ) where
@@ -249,27 +292,14 @@ module _ (c : Committee) (t : Tables) (x : BlockReference) (list : List ℕ) whe
   unfolding addBlock answerOf tablesAfter
   call-committee e = (rw e refl, rw e refl)
 
-  pub call-tables : soundOf c ≡ true → soundTables (c .size) t ≡ false → (reportedOffer (Refused BadTable) ≡ addBlock c t x list) × (t ≡ tablesAfter c t x list)
-  unfolding addBlock answerOf tablesAfter
-  call-tables e f = (rw (e, f) refl, rw (e, f) refl)
-
-  pub call-uneven : soundOf c ≡ true → soundTables (c .size) t ≡ true → (length list % 6 ≡ 0 → ⊥) → (reportedOffer (Refused BadTable) ≡ addBlock c t x list) × (t ≡ tablesAfter c t x list)
-  unfolding addBlock answerOf tablesAfter
-  call-uneven e f n = (rw (e, f, ne-eqb (length list % 6) 0 n) refl, rw (e, f, ne-eqb (length list % 6) 0 n) refl)
-
-  module _ (e : soundOf c ≡ true) (f : soundTables (c .size) t ≡ true) (d : Counts) (ed : d ≡ countsIn (t .blocks) (t .stored) (t .waiting) (t .pending)) (whole : length list % 6 ≡ 0) where
-    pub can-offer-now : CanOffer (c .size) (length (t .blocks) / 8) (length (t .includes)) (t .blocks) (t .includes) (t .waiting) (t .named) d list
-    can-offer-now =
-        subst (λ (k : Counts). CanOffer (c .size) (length (t .blocks) / 8) (length (t .includes)) (t .blocks) (t .includes) (t .waiting) (t .named) k list) (sym ed)
-        (record { holds = tested-holds (c .size) t f; sound = tested-sound (c .size) t f; whole = whole })
-
-    pub call-done : (a : Offered) (after : Tables)
-        → a ≡ offer (limitsIn (c .size) t) (stateIn (t .blocks) (t .includes) (t .waiting) (t .named) d) (blockOf x list) .answer
-        → after ≡ encode (length (t .blocks) / 8) (length (t .includes)) (offer (limitsIn (c .size) t) (stateIn (t .blocks) (t .includes) (t .waiting) (t .named) d) (blockOf x list) .state)
-        → (reportedOffer a ≡ addBlock c t x list) × (after ≡ tablesAfter c t x list)
+  module _ (e : soundOf c ≡ true) where
+    pub call-uneven : (length list % 6 ≡ 0 → ⊥) → (reportedOffer (Refused BadTable) ≡ addBlock c t x list) × (t ≡ tablesAfter c t x list)
     unfolding addBlock answerOf tablesAfter
-    call-done a after ea et =
-        let state : stateIn (t .blocks) (t .includes) (t .waiting) (t .named) d ≡ stateIn (t .blocks) (t .includes) (t .waiting) (t .named) (countsIn (t .blocks) (t .stored) (t .waiting) (t .pending)) = ap (stateIn (t .blocks) (t .includes) (t .waiting) (t .named)) ed in (
-          ap reportedOffer (ea ∙ ap (λ (s : State). offer (limitsIn (c .size) t) s (blockOf x list) .answer) state) ∙ rw (e, f, eq-eqb (length list % 6) 0 whole) refl,
-          et ∙ ap (λ (s : State). encode (length (t .blocks) / 8) (length (t .includes)) (offer (limitsIn (c .size) t) s (blockOf x list) .state)) state ∙ rw (e, f, eq-eqb (length list % 6) 0 whole) refl,
-        )
+    call-uneven n = (rw (e, ne-eqb (length list % 6) 0 n, and-false (soundTables (c .size) t)) refl, rw (e, ne-eqb (length list % 6) 0 n, and-false (soundTables (c .size) t)) refl)
+
+    pub call-rest : length list % 6 ≡ 0 → (a : Offered) (after : Tables) → (a ≡ answerBy (c .size) t x list) × (after ≡ tablesBy (c .size) t x list)
+        → (reportedOffer a ≡ addBlock c t x list) × (after ≡ tablesAfter c t x list)
+    unfolding addBlock answerOf tablesAfter answerBy tablesBy
+    call-rest whole a after is =
+        let q = sym (and-yes (soundTables (c .size) t) (eq-eqb (length list % 6) 0 whole)) in
+        (ap reportedOffer (is .0) ∙ rw (e, q) refl, is .1 ∙ rw (e, q) refl)

@@ -41,7 +41,15 @@ tablesAfter c t x list =
     (encode (length (t .blocks) / blockWords) (length (t .includes)) (outcome (c .size) t x list .state))
     t
 
--- ---- what the parts of the call ask
+-- ---- what the parts of the call answer, where the committee is sound and the list is of whole references
+
+unfoldable pub answerBy : ℕ → Tables → BlockReference → List ℕ → Offered
+answerBy size t x list = cond (soundTables size t) (outcome size t x list .answer) (Refused BadTable)
+
+unfoldable pub tablesBy : ℕ → Tables → BlockReference → List ℕ → Tables
+tablesBy size t x list = cond (soundTables size t) (encode (length (t .blocks) / blockWords) (length (t .includes)) (outcome size t x list .state)) t
+
+-- ---- and what they ask
 
 pub record CanOffer (size B R : ℕ) (blocks includes waiting named : List ℕ) (c : Counts) (list : List ℕ) : Type 0 where
   pub holds : Holds B R blocks includes waiting named c (stateIn blocks includes waiting named c)

@@ -19,7 +19,7 @@ ghost use Rattle.block_store.specs.Store.{fieldOf};
 ghost use Rattle.offers.specs.Exact.{firstAt};
 ghost use Rattle.block_tables.specs.Words.{refRows, rowWords, storedIn, pendingIn};
 ghost use Rattle.block_tables.specs.Edits.{cut, rebase};
-ghost use Rattle.block_tables.specs.Reading.{IndexedIf};
+ghost use Rattle.block_tables.specs.Reading.{FrontIndexed};
 ghost use Rattle.block_tables.specs.Holding.{StoredAs, PendingAs, CanStore, CanWait, CanTake, blockOf};
 
 // Writes a row.
@@ -45,17 +45,17 @@ fn put_words(w: &mut [u64], at: usize, list: &[u64])
     }
 }
 
-// Writes, from `at` on, the rows of the references of a list.
+// Writes, from `at` on, the rows of the references of a list; `order` has the first `sorted` rows in order.
 fn put_rows(
     includes: &mut [u64],
     at: usize,
     blocks: &[u64],
     order: &[u16],
-    sorted: bool,
+    sorted: usize,
     stored: usize,
     list: &[u64],
 )
-    requires { ⌜ (IndexedIf sorted (now blocks) (now order) stored) ⌝ }
+    requires { ⌜ FrontIndexed (now blocks) (now order) sorted stored ⌝ }
     requires { ⌜ at + length (now list) / referenceWords ≤ length (now includes) ⌝ }
     ensures { λ _. ⌜ now (includes .exit) ≡ sets (now (includes .entry)) at (map (firstAt (refRows (now (blocks .entry)) 0 stored)) (refsIn (now (list .entry)))) ⌝ }
 {
@@ -106,18 +106,18 @@ fn rebase(blocks: &mut [u64], from: usize, to: usize, n: usize)
     }
 }
 
-// A block, whose includes are all stored, goes into the store as its last row; `order` has the stored rows in order if they are `sorted`.
+// A block, whose includes are all stored, goes into the store as its last row; `order` has the first `sorted` rows in order.
 pub(crate) fn store_block(
     blocks: &mut [u64],
     includes: &mut [u64],
     order: &[u16],
-    sorted: bool,
+    sorted: usize,
     stored: usize,
     included: usize,
     x: BlockReference,
     list: &[u64],
 )
-    requires { ⌜ (IndexedIf sorted (now blocks) (now order) stored) ⌝ }
+    requires { ⌜ FrontIndexed (now blocks) (now order) sorted stored ⌝ }
     requires { ⌜ CanStore (length (now blocks) / blockWords) (length (now includes)) (now blocks) (now includes) stored included (now list) ⌝ }
     ensures { λ _. ⌜ StoredAs (length (now (blocks .entry)) / blockWords) (length (now (includes .entry))) (now (blocks .exit)) (now (includes .exit)) (stored + 1) (included + length (now (list .entry)) / referenceWords) (storedIn (now (blocks .entry)) (now (includes .entry)) stored ++ blockOf x (now (list .entry)) ∷ []) ⌝ }
 {

@@ -8,13 +8,12 @@ use block_store::sound::MAX_BLOCKS;
 use block_tables::Counts;
 use block_tables::indexed::all_in;
 use block_tables::indexed::row_in;
-use block_tables::parts::row_of;
 use block_tables::sound::all_below;
 use block_tables::sound::counts_in;
-use block_tables::sound::tables_are_sound;
+use block_tables::sound::larger;
+use block_tables::sound::tables_are_sound_by;
 use committee::Committee;
 use committee::parts::is_sound;
-use index::build::index_references;
 use offers::Offered;
 use types::BlockReference;
 use types::MAX_INCLUDES;
@@ -22,15 +21,16 @@ use types::ROUND_LIMIT;
 use types::Refusal;
 use types::reference::REFERENCE_WORDS;
 ghost use mathlib.Core.Path.{_≡_};
-ghost use Prim.Native.Nat.{_/_};
+ghost use Prim.Native.Nat.{_/_, _%_, _≤_, max};
 ghost use lib.ListN.{length};
-ghost use Rattle.types.specs.Limits.{blockWords};
+ghost use Rattle.types.specs.Limits.{blockWords, referenceWords};
+ghost use Rattle.index.specs.Keys.{referenceKey};
+ghost use Rattle.index.specs.Search.{Indexed};
 ghost use Rattle.offers.specs.Offers.{reportedOffer, goodArgument, enter, offer};
 ghost use Rattle.block_tables.specs.Words.{tablesOf, encode};
 ghost use Rattle.block_tables.specs.Holding.{Holds, blockOf, stateIn};
-ghost use Rattle.block_tables.specs.Reading.{IndexedIf};
-ghost use Rattle.block_tables.specs.Sound.{limitsOf};
-ghost use Rattle.block_manager.specs.Call.{addBlock, tablesAfter, CanOffer, CanEnter};
+ghost use Rattle.block_tables.specs.Sound.{soundTables, soundBy, limitsOf};
+ghost use Rattle.block_manager.specs.Call.{addBlock, tablesAfter, answerBy, tablesBy, CanOffer, CanEnter};
 
 // Whether the block's numbers are within limits, and each include has a smaller round.
 fn good_block(size: u64, x: BlockReference, list: &[u64]) -> bool
@@ -48,20 +48,19 @@ fn good_block(size: u64, x: BlockReference, list: &[u64]) -> bool
     all_below(size, x.round, list)
 }
 
-// A new block, whose includes are all stored, goes in, and then whatever it lets in.
+// A new block, whose includes are all stored, goes in, and then whatever it lets in; `order` has the stored rows in order.
 fn enter_block(
     blocks: &mut [u64],
     includes: &mut [u64],
     waiting: &mut [u64],
     named: &mut [u64],
     order: &[u16],
-    sorted: bool,
     c: Counts,
     size: u64,
     x: BlockReference,
     list: &[u64],
 ) -> Counts
-    requires { ⌜ (IndexedIf sorted (now blocks) (now order) (c .stored)) ⌝ }
+    requires { ⌜ Indexed (referenceKey (now blocks)) (c .stored) (now order) ⌝ }
     requires { ⌜ CanEnter size (length (now blocks) / blockWords) (length (now includes)) (now blocks) (now includes) (now waiting) (now named) c x (now list) ⌝ }
     ensures { λ r. ⌜ Holds (length (now (blocks .entry)) / blockWords) (length (now (includes .entry))) (now (blocks .exit)) (now (includes .exit)) (now (waiting .exit)) (now (named .exit)) r (enter (stateIn (now (blocks .entry)) (now (includes .entry)) (now (waiting .entry)) (now (named .entry)) c) (blockOf x (now (list .entry)))) ⌝ }
 {
@@ -70,30 +69,31 @@ fn enter_block(
     let pending = c.pending;
     let total = c.named;
     let count = list.len() / REFERENCE_WORDS;
-    store_block(blocks, includes, order, sorted, stored, included, x, list);
+    store_block(blocks, includes, order, stored, stored, included, x, list);
     let start = Counts {
         stored: stored + 1,
         included: included + count,
         pending,
         named: total,
     };
-    cascade(blocks, includes, waiting, named, start)
+    cascade(blocks, includes, waiting, named, order, start)
 }
 
-// An offer to sound tables; `order` has the stored rows in order if they are `sorted`.
+// An offer to sound tables; `order` has the stored rows in order, and `others` the pending ones.
 fn offer_sound(
     blocks: &mut [u64],
     includes: &mut [u64],
     waiting: &mut [u64],
     named: &mut [u64],
     order: &[u16],
-    sorted: bool,
+    others: &[u16],
     c: Counts,
     size: u64,
     x: BlockReference,
     list: &[u64],
 ) -> OfferAnswer
-    requires { ⌜ (IndexedIf sorted (now blocks) (now order) (c .stored)) ⌝ }
+    requires { ⌜ Indexed (referenceKey (now blocks)) (c .stored) (now order) ⌝ }
+    requires { ⌜ Indexed (referenceKey (now waiting)) (c .pending) (now others) ⌝ }
     requires { ⌜ CanOffer size (length (now blocks) / blockWords) (length (now includes)) (now blocks) (now includes) (now waiting) (now named) c (now list) ⌝ }
     ensures { λ r. ⌜ r .answer ≡ offer (limitsOf size (length (now (blocks .entry)) / blockWords) (length (now (includes .entry)))) (stateIn (now (blocks .entry)) (now (includes .entry)) (now (waiting .entry)) (now (named .entry)) c) (blockOf x (now (list .entry))) .answer ⌝ }
     ensures after { λ r. ⌜ tablesOf (now (blocks .exit)) (now (includes .exit)) (r .stored) (now (waiting .exit)) (now (named .exit)) (r .pending) ≡ encode (length (now (blocks .entry)) / blockWords) (length (now (includes .entry))) (offer (limitsOf size (length (now (blocks .entry)) / blockWords) (length (now (includes .entry)))) (stateIn (now (blocks .entry)) (now (includes .entry)) (now (waiting .entry)) (now (named .entry)) c) (blockOf x (now (list .entry))) .state) ⌝ }
@@ -110,14 +110,14 @@ fn offer_sound(
             pending,
         };
     }
-    if row_in(blocks, order, sorted, stored, x) < stored {
+    if row_in(blocks, order, stored, stored, x) < stored {
         return OfferAnswer {
             answer: Offered::Known,
             stored,
             pending,
         };
     }
-    if row_of(waiting, pending, x) < pending {
+    if row_in(waiting, others, pending, pending, x) < pending {
         return OfferAnswer {
             answer: Offered::Known,
             stored,
@@ -138,19 +138,8 @@ fn offer_sound(
             pending,
         };
     }
-    if all_in(blocks, order, sorted, stored, list) {
-        let d = enter_block(
-            blocks,
-            includes,
-            waiting,
-            named,
-            order,
-            sorted,
-            c,
-            size,
-            x,
-            list,
-        );
+    if all_in(blocks, order, stored, stored, list) {
+        let d = enter_block(blocks, includes, waiting, named, order, c, size, x, list);
         let grown = d.stored - stored;
         return OfferAnswer {
             answer: Offered::Stored(grown),
@@ -166,33 +155,89 @@ fn offer_sound(
     }
 }
 
-// The same, by way of areas for at most 256 stored rows; more are not put in order.
-fn offer_256(
+// The test of the tables, and the offer of a list of whole references, by way of areas with room for the rows of both sides.
+fn offer_by(
+    size: u64,
     blocks: &mut [u64],
     includes: &mut [u64],
+    stored: usize,
     waiting: &mut [u64],
     named: &mut [u64],
-    c: Counts,
-    size: u64,
+    pending: usize,
+    order: &mut [u16],
+    others: &mut [u16],
+    work: &mut [u16],
     x: BlockReference,
     list: &[u64],
 ) -> OfferAnswer
-    requires { ⌜ CanOffer size (length (now blocks) / blockWords) (length (now includes)) (now blocks) (now includes) (now waiting) (now named) c (now list) ⌝ }
-    ensures { λ r. ⌜ r .answer ≡ offer (limitsOf size (length (now (blocks .entry)) / blockWords) (length (now (includes .entry)))) (stateIn (now (blocks .entry)) (now (includes .entry)) (now (waiting .entry)) (now (named .entry)) c) (blockOf x (now (list .entry))) .answer ⌝ }
-    ensures after { λ r. ⌜ tablesOf (now (blocks .exit)) (now (includes .exit)) (r .stored) (now (waiting .exit)) (now (named .exit)) (r .pending) ≡ encode (length (now (blocks .entry)) / blockWords) (length (now (includes .entry))) (offer (limitsOf size (length (now (blocks .entry)) / blockWords) (length (now (includes .entry)))) (stateIn (now (blocks .entry)) (now (includes .entry)) (now (waiting .entry)) (now (named .entry)) c) (blockOf x (now (list .entry))) .state) ⌝ }
+    requires { ⌜ length (now list) % referenceWords ≡ 0 ⌝ }
+    requires { ⌜ soundBy size (tablesOf (now blocks) (now includes) stored (now waiting) (now named) pending) (length (now order)) (length (now others)) (length (now work)) ≡ soundTables size (tablesOf (now blocks) (now includes) stored (now waiting) (now named) pending) ⌝ }
+    ensures { λ r. ⌜ r .answer ≡ answerBy size (tablesOf (now (blocks .entry)) (now (includes .entry)) stored (now (waiting .entry)) (now (named .entry)) pending) x (now (list .entry)) ⌝ }
+    ensures after { λ r. ⌜ tablesOf (now (blocks .exit)) (now (includes .exit)) (r .stored) (now (waiting .exit)) (now (named .exit)) (r .pending) ≡ tablesBy size (tablesOf (now (blocks .entry)) (now (includes .entry)) stored (now (waiting .entry)) (now (named .entry)) pending) x (now (list .entry)) ⌝ }
 {
-    let mut order = [0u16; 256];
-    let mut work = [0u16; 256];
-    let sorted = index_references(blocks, c.stored, &mut order, &mut work);
+    if !tables_are_sound_by(
+        size,
+        blocks,
+        includes,
+        stored,
+        waiting,
+        named,
+        pending,
+        order,
+        others,
+        work,
+    ) {
+        return OfferAnswer {
+            answer: Offered::Refused(Refusal::BadTable),
+            stored,
+            pending,
+        };
+    }
+    let c = counts_in(blocks, stored, waiting, pending);
     offer_sound(
         blocks,
         includes,
         waiting,
         named,
-        &order,
-        sorted,
+        order,
+        others,
         c,
         size,
+        x,
+        list,
+    )
+}
+
+// The same for at most 256 rows on a side.
+fn offer_256(
+    size: u64,
+    blocks: &mut [u64],
+    includes: &mut [u64],
+    stored: usize,
+    waiting: &mut [u64],
+    named: &mut [u64],
+    pending: usize,
+    x: BlockReference,
+    list: &[u64],
+) -> OfferAnswer
+    requires { ⌜ (length (now list) % referenceWords ≡ 0) × (max stored pending ≤ 256) ⌝ }
+    ensures { λ r. ⌜ r .answer ≡ answerBy size (tablesOf (now (blocks .entry)) (now (includes .entry)) stored (now (waiting .entry)) (now (named .entry)) pending) x (now (list .entry)) ⌝ }
+    ensures after { λ r. ⌜ tablesOf (now (blocks .exit)) (now (includes .exit)) (r .stored) (now (waiting .exit)) (now (named .exit)) (r .pending) ≡ tablesBy size (tablesOf (now (blocks .entry)) (now (includes .entry)) stored (now (waiting .entry)) (now (named .entry)) pending) x (now (list .entry)) ⌝ }
+{
+    let mut order = [0u16; 256];
+    let mut others = [0u16; 256];
+    let mut work = [0u16; 256];
+    offer_by(
+        size,
+        blocks,
+        includes,
+        stored,
+        waiting,
+        named,
+        pending,
+        &mut order,
+        &mut others,
+        &mut work,
         x,
         list,
     )
@@ -200,90 +245,128 @@ fn offer_256(
 
 // The same for at most 4,096.
 fn offer_4096(
+    size: u64,
     blocks: &mut [u64],
     includes: &mut [u64],
+    stored: usize,
     waiting: &mut [u64],
     named: &mut [u64],
-    c: Counts,
-    size: u64,
+    pending: usize,
     x: BlockReference,
     list: &[u64],
 ) -> OfferAnswer
-    requires { ⌜ CanOffer size (length (now blocks) / blockWords) (length (now includes)) (now blocks) (now includes) (now waiting) (now named) c (now list) ⌝ }
-    ensures { λ r. ⌜ r .answer ≡ offer (limitsOf size (length (now (blocks .entry)) / blockWords) (length (now (includes .entry)))) (stateIn (now (blocks .entry)) (now (includes .entry)) (now (waiting .entry)) (now (named .entry)) c) (blockOf x (now (list .entry))) .answer ⌝ }
-    ensures after { λ r. ⌜ tablesOf (now (blocks .exit)) (now (includes .exit)) (r .stored) (now (waiting .exit)) (now (named .exit)) (r .pending) ≡ encode (length (now (blocks .entry)) / blockWords) (length (now (includes .entry))) (offer (limitsOf size (length (now (blocks .entry)) / blockWords) (length (now (includes .entry)))) (stateIn (now (blocks .entry)) (now (includes .entry)) (now (waiting .entry)) (now (named .entry)) c) (blockOf x (now (list .entry))) .state) ⌝ }
+    requires { ⌜ (length (now list) % referenceWords ≡ 0) × (max stored pending ≤ 4096) ⌝ }
+    ensures { λ r. ⌜ r .answer ≡ answerBy size (tablesOf (now (blocks .entry)) (now (includes .entry)) stored (now (waiting .entry)) (now (named .entry)) pending) x (now (list .entry)) ⌝ }
+    ensures after { λ r. ⌜ tablesOf (now (blocks .exit)) (now (includes .exit)) (r .stored) (now (waiting .exit)) (now (named .exit)) (r .pending) ≡ tablesBy size (tablesOf (now (blocks .entry)) (now (includes .entry)) stored (now (waiting .entry)) (now (named .entry)) pending) x (now (list .entry)) ⌝ }
 {
     let mut order = [0u16; 4096];
+    let mut others = [0u16; 4096];
     let mut work = [0u16; 4096];
-    let sorted = index_references(blocks, c.stored, &mut order, &mut work);
-    offer_sound(
+    offer_by(
+        size,
         blocks,
         includes,
+        stored,
         waiting,
         named,
-        &order,
-        sorted,
-        c,
-        size,
+        pending,
+        &mut order,
+        &mut others,
+        &mut work,
         x,
         list,
     )
 }
 
-// The same for as many as a table has.
+// The same for any number; more than a table has are refused.
 fn offer_65536(
+    size: u64,
     blocks: &mut [u64],
     includes: &mut [u64],
+    stored: usize,
     waiting: &mut [u64],
     named: &mut [u64],
-    c: Counts,
-    size: u64,
+    pending: usize,
     x: BlockReference,
     list: &[u64],
 ) -> OfferAnswer
-    requires { ⌜ CanOffer size (length (now blocks) / blockWords) (length (now includes)) (now blocks) (now includes) (now waiting) (now named) c (now list) ⌝ }
-    ensures { λ r. ⌜ r .answer ≡ offer (limitsOf size (length (now (blocks .entry)) / blockWords) (length (now (includes .entry)))) (stateIn (now (blocks .entry)) (now (includes .entry)) (now (waiting .entry)) (now (named .entry)) c) (blockOf x (now (list .entry))) .answer ⌝ }
-    ensures after { λ r. ⌜ tablesOf (now (blocks .exit)) (now (includes .exit)) (r .stored) (now (waiting .exit)) (now (named .exit)) (r .pending) ≡ encode (length (now (blocks .entry)) / blockWords) (length (now (includes .entry))) (offer (limitsOf size (length (now (blocks .entry)) / blockWords) (length (now (includes .entry)))) (stateIn (now (blocks .entry)) (now (includes .entry)) (now (waiting .entry)) (now (named .entry)) c) (blockOf x (now (list .entry))) .state) ⌝ }
+    requires { ⌜ length (now list) % referenceWords ≡ 0 ⌝ }
+    ensures { λ r. ⌜ r .answer ≡ answerBy size (tablesOf (now (blocks .entry)) (now (includes .entry)) stored (now (waiting .entry)) (now (named .entry)) pending) x (now (list .entry)) ⌝ }
+    ensures after { λ r. ⌜ tablesOf (now (blocks .exit)) (now (includes .exit)) (r .stored) (now (waiting .exit)) (now (named .exit)) (r .pending) ≡ tablesBy size (tablesOf (now (blocks .entry)) (now (includes .entry)) stored (now (waiting .entry)) (now (named .entry)) pending) x (now (list .entry)) ⌝ }
 {
     let mut order = [0u16; MAX_BLOCKS];
+    let mut others = [0u16; MAX_BLOCKS];
     let mut work = [0u16; MAX_BLOCKS];
-    let sorted = index_references(blocks, c.stored, &mut order, &mut work);
-    offer_sound(
+    offer_by(
+        size,
         blocks,
         includes,
+        stored,
         waiting,
         named,
-        &order,
-        sorted,
-        c,
-        size,
+        pending,
+        &mut order,
+        &mut others,
+        &mut work,
         x,
         list,
     )
 }
 
-// An offer to sound tables, with the smallest areas that hold their rows.
+// The same, with the smallest areas that hold the rows.
 fn offer_sized(
+    size: u64,
     blocks: &mut [u64],
     includes: &mut [u64],
+    stored: usize,
     waiting: &mut [u64],
     named: &mut [u64],
-    c: Counts,
-    size: u64,
+    pending: usize,
     x: BlockReference,
     list: &[u64],
 ) -> OfferAnswer
-    requires { ⌜ CanOffer size (length (now blocks) / blockWords) (length (now includes)) (now blocks) (now includes) (now waiting) (now named) c (now list) ⌝ }
-    ensures { λ r. ⌜ r .answer ≡ offer (limitsOf size (length (now (blocks .entry)) / blockWords) (length (now (includes .entry)))) (stateIn (now (blocks .entry)) (now (includes .entry)) (now (waiting .entry)) (now (named .entry)) c) (blockOf x (now (list .entry))) .answer ⌝ }
-    ensures after { λ r. ⌜ tablesOf (now (blocks .exit)) (now (includes .exit)) (r .stored) (now (waiting .exit)) (now (named .exit)) (r .pending) ≡ encode (length (now (blocks .entry)) / blockWords) (length (now (includes .entry))) (offer (limitsOf size (length (now (blocks .entry)) / blockWords) (length (now (includes .entry)))) (stateIn (now (blocks .entry)) (now (includes .entry)) (now (waiting .entry)) (now (named .entry)) c) (blockOf x (now (list .entry))) .state) ⌝ }
+    requires { ⌜ length (now list) % referenceWords ≡ 0 ⌝ }
+    ensures { λ r. ⌜ r .answer ≡ answerBy size (tablesOf (now (blocks .entry)) (now (includes .entry)) stored (now (waiting .entry)) (now (named .entry)) pending) x (now (list .entry)) ⌝ }
+    ensures after { λ r. ⌜ tablesOf (now (blocks .exit)) (now (includes .exit)) (r .stored) (now (waiting .exit)) (now (named .exit)) (r .pending) ≡ tablesBy size (tablesOf (now (blocks .entry)) (now (includes .entry)) stored (now (waiting .entry)) (now (named .entry)) pending) x (now (list .entry)) ⌝ }
 {
-    if c.stored <= 256 {
-        return offer_256(blocks, includes, waiting, named, c, size, x, list);
+    let rows = larger(stored, pending);
+    if rows <= 256 {
+        return offer_256(
+            size,
+            blocks,
+            includes,
+            stored,
+            waiting,
+            named,
+            pending,
+            x,
+            list,
+        );
     }
-    if c.stored <= 4096 {
-        return offer_4096(blocks, includes, waiting, named, c, size, x, list);
+    if rows <= 4096 {
+        return offer_4096(
+            size,
+            blocks,
+            includes,
+            stored,
+            waiting,
+            named,
+            pending,
+            x,
+            list,
+        );
     }
-    offer_65536(blocks, includes, waiting, named, c, size, x, list)
+    offer_65536(
+        size,
+        blocks,
+        includes,
+        stored,
+        waiting,
+        named,
+        pending,
+        x,
+        list,
+    )
 }
 
 // One block is offered: its reference, and the references that it includes, six words each. It is stored if all its includes are, with
@@ -310,13 +393,6 @@ pub fn add_block(
         };
     }
     let size = committee.size;
-    if !tables_are_sound(size, blocks, includes, stored, waiting, named, pending) {
-        return OfferAnswer {
-            answer: Offered::Refused(Refusal::BadTable),
-            stored,
-            pending,
-        };
-    }
     if list.len() % REFERENCE_WORDS != 0 {
         return OfferAnswer {
             answer: Offered::Refused(Refusal::BadTable),
@@ -324,6 +400,15 @@ pub fn add_block(
             pending,
         };
     }
-    let c = counts_in(blocks, stored, waiting, pending);
-    offer_sized(blocks, includes, waiting, named, c, size, block, list)
+    offer_sized(
+        size,
+        blocks,
+        includes,
+        stored,
+        waiting,
+        named,
+        pending,
+        block,
+        list,
+    )
 }

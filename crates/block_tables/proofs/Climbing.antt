@@ -7,12 +7,13 @@ use mathlib.Core.Path.{_≡_, refl, sym, ap, _∙_, subst}
 use native.Mathlib.Omega.{arith}
 use Rattle.block_store.specs.Store.{storeOf, includesOf}
 use Rattle.block_tables.proofs.Edits.{ref-here}
+use Rattle.block_tables.proofs.Growing.{front-kept}
 use Rattle.block_tables.proofs.Holding.{length-blockTable, length-includeTable, length-waiting, length-named-table, refs-of-rows}
 use Rattle.block_tables.proofs.Loops.{includes-stretch}
 use Rattle.block_tables.proofs.Moving.{pending-is, state-is}
 use Rattle.block_tables.proofs.Reading.{freed-row, reach-rows, row-below, stored-list}
 use Rattle.block_tables.specs.Holding.{Holds, CanMove, CanClimb, stateIn}
-use Rattle.block_tables.specs.Reading.{freedRow, reachBelow}
+use Rattle.block_tables.specs.Reading.{allAmong, freedRow, reachBelow, FrontIndexed}
 use Rattle.block_tables.specs.Words.{refRows, blockTable, pendingIn}
 use Rattle.block_tables.specs.declared.Counts.{Counts}
 use Rattle.offers.proofs.Cascade.{firstFreed-freed}
@@ -82,7 +83,7 @@ module _ (B R : ℕ) (goal : State) (first : ℕ) (blocks includes waiting named
   turn-lengths = lengths B R blocks includes waiting named c (t .st) (t .holds)
 
   module _ (go-on : 0 < steps) (above : first < at) (x : BlockReference) (row : ℕ) (ex : x ≡ refAt blocks ((at - 1) * 8))
-      (er : row ≡ freedRow (refRows blocks 0 (c .stored)) x (pendingIn waiting named (c .pending))) where
+      (er : row ≡ freedRow (allAmong (refRows blocks 0 (c .stored))) x (pendingIn waiting named (c .pending))) where
     inside : at - 1 < length (t .st .stored)
     inside = omega (arith, t .at-row)
 
@@ -92,10 +93,10 @@ module _ (B R : ℕ) (goal : State) (first : ℕ) (blocks includes waiting named
     row-is : row ≡ firstFreed (t .st .stored) x (t .st .pending)
     row-is =
         er
-        ∙ ap (λ (p : List Block). freedRow (refRows blocks 0 (c .stored)) x p) (pending-is B R waiting named (c .pending) (c .named) (t .st .pending) (t .holds .pending-side))
-        ∙ ap (λ (l : List ℕ). freedRow (refRows l 0 (c .stored)) x (t .st .pending)) (t .holds .stored-side .rows-are)
-        ∙ ap (λ (n : ℕ). freedRow (refRows (blockTable B (t .st .stored)) 0 n) x (t .st .pending)) (t .holds .stored-side .count-is)
-        ∙ ap (λ (l : List BlockReference). freedRow l x (t .st .pending)) (refs-of-rows B (t .st .stored))
+        ∙ ap (λ (p : List Block). freedRow (allAmong (refRows blocks 0 (c .stored))) x p) (pending-is B R waiting named (c .pending) (c .named) (t .st .pending) (t .holds .pending-side))
+        ∙ ap (λ (l : List ℕ). freedRow (allAmong (refRows l 0 (c .stored))) x (t .st .pending)) (t .holds .stored-side .rows-are)
+        ∙ ap (λ (n : ℕ). freedRow (allAmong (refRows (blockTable B (t .st .stored)) 0 n)) x (t .st .pending)) (t .holds .stored-side .count-is)
+        ∙ ap (λ (l : List BlockReference). freedRow (allAmong l) x (t .st .pending)) (refs-of-rows B (t .st .stored))
         ∙ sym (freed-row (t .st .stored) x (t .st .pending))
 
     one-less : steps ≡ suc (steps - 1)
@@ -115,6 +116,14 @@ module _ (B R : ℕ) (goal : State) (first : ℕ) (blocks includes waiting named
             inside = h;
             ready = ap (λ (s : State). held (s .stored) (getD (s .pending) row noBlock .includes)) is ∙ ap (λ (k : ℕ). held (t .st .stored) (getD (t .st .pending) k noBlock .includes)) row-is ∙ free;
           }
+
+      -- the rows that were in order still are
+      pub turn-front : (blocks' includes' waiting' named' : List ℕ) (c' : Counts)
+          → Holds (length blocks / 8) (length includes) blocks' includes' waiting' named' c' (move row (stateIn blocks includes waiting named c))
+          → (order : List ℕ) (m : ℕ) → FrontIndexed blocks order m (c .stored) → FrontIndexed blocks' order m (c' .stored)
+      turn-front blocks' includes' waiting' named' c' k order m f =
+          front-kept (length blocks / 8) (length includes) blocks includes (c .stored) (c .included) (stateIn blocks includes waiting named c .stored) (can-move .holds .stored-side)
+          blocks' includes' (c' .stored) (c' .included) (getD (stateIn blocks includes waiting named c .pending) row noBlock) (k .stored-side) order m f
 
       pub turn-move : (blocks' includes' waiting' named' : List ℕ) (c' : Counts)
           → Holds (length blocks / 8) (length includes) blocks' includes' waiting' named' c' (move row (stateIn blocks includes waiting named c))

@@ -1,5 +1,5 @@
 -- What halving finds among the rows in order is what a scan of the rows finds. Assumes nothing.
-use Prim.Native.Nat.{ℕ, zero, suc, _+_, _*_, _<_, _/_, _≤_}
+use Prim.Native.Nat.{ℕ, zero, suc, _+_, _-_, _*_, _<_, _/_, _≤_}
 use borrow.Author.Tests.{eq-eqb, eqb-true, lt-ltb, le-ltb}
 use lib.Dec.{eqb, ltb}
 use lib.ListN.{length, drop}
@@ -9,16 +9,16 @@ use mathlib.Core.Logic.{_⊎_, ⊎-elim}
 use mathlib.Core.Path.{_≡_, refl, sym, ap, _∙_}
 use native.Mathlib.Omega.{arith}
 use Rattle.block_tables.proofs.Loops.{refs-next, refs-end, among-at, length-refRows}
-use Rattle.block_tables.specs.Reading.{allAmong, lookedUp, allFound, IndexedIf}
+use Rattle.block_tables.specs.Reading.{allAmong, freedRow, rowFrom, within, lookedUp, allFound, FrontIndexed}
 use Rattle.block_tables.specs.Words.{refRows}
 use Rattle.index.proofs.Same.{key-is, same-keys}
 use Rattle.index.proofs.Searching.{key-row, found}
 use Rattle.index.specs.Keys.{referenceKey}
 use Rattle.index.specs.Search.{Indexed, foundRow}
-use Rattle.offers.specs.Blocks.{among}
+use Rattle.offers.specs.Blocks.{Block, among}
 use Rattle.offers.specs.Exact.{firstAt}
 use Rattle.types.proofs.References.{order-equal}
-use Rattle.types.proofs.Tests.{fails}
+use Rattle.types.proofs.Tests.{fails, by-test, lt-or-le}
 use Rattle.types.specs.Limits.{blockWords}
 use Rattle.types.specs.References.{refsIn, same, orderOf, keyOf, refAt}
 use Rattle.types.specs.declared.reference.BlockReference.{BlockReference}
@@ -86,20 +86,64 @@ module _ (w : List ℕ) (n : ℕ) (order : List ℕ) (x : BlockReference) (ix : 
       (λ r. r .0 ∙ sym (first-none w x 0 n (λ i l. is-not i (r .1 i l))))
       (found (referenceKey w) n (ix .distinct) order (ix .rows) (keyOf x))
 
--- ---- with a flag
+-- ---- with rows behind those in order
 
-pub looked-up : (sorted : Bool) (w order : List ℕ) (n : ℕ) (x : BlockReference) → IndexedIf sorted w order n → lookedUp sorted w order n x ≡ firstAt (refRows w 0 n) x
-unfolding lookedUp
-looked-up true w order n x ix = row-found w n order x (ix refl)
-looked-up false w order n x ix = refl
+within-low : (m row other : ℕ) → row < m → within m row other ≡ row
+unfolding within
+within-low m row other h = rw (lt-ltb row m h) refl
 
-pub by-halving : (sorted : Bool) (w order : List ℕ) (n : ℕ) (x : BlockReference) → sorted ≡ true → foundRow (referenceKey w) order n (keyOf x) ≡ lookedUp sorted w order n x
-unfolding lookedUp
-by-halving sorted w order n x e = sym (rw e refl)
+within-high : (m row other : ℕ) → m ≤ row → within m row other ≡ other
+unfolding within
+within-high m row other h = rw (le-ltb row m h) refl
 
-pub by-scan : (sorted : Bool) (w order : List ℕ) (n : ℕ) (x : BlockReference) → sorted ≡ false → firstAt (refRows w 0 n) x ≡ lookedUp sorted w order n x
-unfolding lookedUp
-by-scan sorted w order n x e = sym (rw e refl)
+within-suc : (m f g : ℕ) → within (suc m) (1 + f) (suc m + g) ≡ 1 + within m f (m + g)
+within-suc m f g =
+    ⊎-elim
+    (λ l. omega (arith, within-low (suc m) (1 + f) (suc m + g) (omega arith), within-low m f (m + g) l))
+    (λ l. omega (arith, within-high (suc m) (1 + f) (suc m + g) (omega arith), within-high m f (m + g) l))
+    (lt-or-le f m)
+
+-- a scan of m rows and d more
+first-split : (w : List ℕ) (x : BlockReference) (k m d : ℕ) → firstAt (refRows w k (m + d)) x ≡ within m (firstAt (refRows w k m) x) (m + firstAt (refRows w (k + m) d) x)
+unfolding refRows firstAt
+first-split w x k zero d =
+    let z : k + 0 ≡ k = omega arith in
+    let y : 0 + d ≡ d = omega arith in
+    let v = within-high 0 0 (0 + firstAt (refRows w (k + 0) d) x) (omega arith) in
+    omega (arith, v, ap (λ (j : ℕ). firstAt (refRows w j d) x) z, ap (λ (j : ℕ). firstAt (refRows w k j) x) y)
+first-split w x k (suc m) d =
+    let s : suc m + d ≡ suc (m + d) = omega arith in
+    let q : suc k + m ≡ k + suc m = omega arith in
+    by-test (same (refAt w (k * blockWords)) x)
+    (λ e. rw (s, e) (sym (within-low (suc m) 0 (suc m + firstAt (refRows w (k + suc m) d) x) (omega arith))))
+    (λ e. rw (s, e) (ap (λ (j : ℕ). 1 + j) (first-split w x (suc k) m d)
+    ∙ sym (within-suc m (firstAt (refRows w (suc k) m) x) (firstAt (refRows w (suc k + m) d) x))
+    ∙ ap (λ (j : ℕ). within (suc m) (1 + firstAt (refRows w (suc k) m) x) (suc m + firstAt (refRows w j d) x)) q))
+
+pub whole-front : (w order : List ℕ) (n : ℕ) → Indexed (referenceKey w) n order → FrontIndexed w order n n
+whole-front w order n ix = record { fits = omega arith; index = ix }
+
+module _ (w order : List ℕ) (m n : ℕ) (x : BlockReference) where
+  pub looked-up : FrontIndexed w order m n → lookedUp w order m n x ≡ firstAt (refRows w 0 n) x
+  unfolding lookedUp rowFrom
+  looked-up f =
+      let s : m + (n - m) ≡ n = omega (arith, f .fits) in
+      let z : m ≡ 0 + m = omega arith in
+      ap (λ (row : ℕ). within m row (m + firstAt (refRows w m (n - m)) x)) (row-found w m order x (f .index))
+      ∙ ap (λ (k : ℕ). within m (firstAt (refRows w 0 m) x) (m + firstAt (refRows w k (n - m)) x)) z
+      ∙ sym (first-split w x 0 m (n - m))
+      ∙ ap (λ (j : ℕ). firstAt (refRows w 0 j) x) s
+
+  module _ (row : ℕ) (e : row ≡ foundRow (referenceKey w) order m (keyOf x)) where
+    pub by-halving : row < m → row ≡ lookedUp w order m n x
+    unfolding lookedUp
+    by-halving h = e ∙ sym (within-low m (foundRow (referenceKey w) order m (keyOf x)) (rowFrom w m n x) (omega arith))
+
+    pub by-scan : m ≤ row → rowFrom w m n x ≡ lookedUp w order m n x
+    unfolding lookedUp
+    by-scan h = sym (within-high m (foundRow (referenceKey w) order m (keyOf x)) (rowFrom w m n x) (omega arith))
+
+-- ---- each of a list
 
 module _ (row : BlockReference → ℕ) (n : ℕ) (l : List ℕ) (k : ℕ) where
   pub found-next : k < length l / 6 → row (refAt l (k * 6)) < n → allFound row n (refsIn (drop ((k + 1) * 6) l)) ≡ allFound row n (refsIn (drop (k * 6) l))
@@ -123,5 +167,15 @@ found-among row n xs len e (r ∷ rs) =
     let b : allFound row n rs ≡ allAmong xs rs = found-among row n xs len e rs in
     λ i. a i && b i
 
-pub all-looked-up : (sorted : Bool) (w order : List ℕ) (n : ℕ) (rs : List BlockReference) → IndexedIf sorted w order n → allFound (lookedUp sorted w order n) n rs ≡ allAmong (refRows w 0 n) rs
-all-looked-up sorted w order n rs ix = found-among (lookedUp sorted w order n) n (refRows w 0 n) (length-refRows w 0 n) (λ r. looked-up sorted w order n r ix) rs
+-- a test in place of another that agrees with it
+freed-ext : (f g : List BlockReference → Bool) → ((rs : List BlockReference) → f rs ≡ g rs) → (r : BlockReference) (p : List Block) → freedRow f r p ≡ freedRow g r p
+unfolding freedRow
+freed-ext f g h r [] = refl
+freed-ext f g h r (b ∷ p) = rw (h (b .includes), freed-ext f g h r p) refl
+
+module _ (w order : List ℕ) (m n : ℕ) (f : FrontIndexed w order m n) where
+  pub all-looked-up : (rs : List BlockReference) → allFound (lookedUp w order m n) n rs ≡ allAmong (refRows w 0 n) rs
+  all-looked-up rs = found-among (lookedUp w order m n) n (refRows w 0 n) (length-refRows w 0 n) (λ r. looked-up w order m n r f) rs
+
+  pub freed-looked-up : (r : BlockReference) (p : List Block) → freedRow (allFound (lookedUp w order m n) n) r p ≡ freedRow (allAmong (refRows w 0 n)) r p
+  freed-looked-up r p = freed-ext (allFound (lookedUp w order m n) n) (allAmong (refRows w 0 n)) all-looked-up r p

@@ -12,7 +12,7 @@ use native.Mathlib.Numerals.{add-one}
 use native.Mathlib.Omega.{arith}
 use Rattle.block_store.specs.Store.{storeOf, fieldOf, includesOf}
 use Rattle.block_tables.specs.Edits.{cut, rebase, putAt}
-use Rattle.block_tables.specs.Reading.{allAmong, freedRow, reachBelow}
+use Rattle.block_tables.specs.Reading.{rowFrom, freedRow, reachBelow}
 use Rattle.block_tables.specs.Words.{refRows, stretch, blockAt, blocksFrom, rowWords}
 use Rattle.offers.specs.Blocks.{Block, among}
 use Rattle.offers.specs.Exact.{firstAt}
@@ -120,7 +120,7 @@ pub among-end : (l : List ℕ) (k : ℕ) (x : BlockReference) → length l / 6 �
 unfolding among
 among-end l k x h = rw (refs-end l k h) refl
 
--- ---- is each of them in a table
+-- ---- is a reference in a table
 
 pub length-refRows : (w : List ℕ) (k n : ℕ) → length (refRows w k n) ≡ n
 unfolding refRows
@@ -145,19 +145,6 @@ among-at (x ∷ xs) r = go (tested (same x r)) (among-at xs r)
     go (inl e) ih = rw e (sym (lt-ltb 0 (suc (length xs)) (omega arith)))
     go (inr e) ih = rw (e, ih) (less (firstAt xs r) (length xs))
 
-pub all-next : (xs : List BlockReference) (l : List ℕ) (k : ℕ) → k < length l / 6 → firstAt xs (refAt l (k * 6)) < length xs
-    → allAmong xs (refsIn (drop (k * 6) l)) ≡ allAmong xs (refsIn (drop ((k + 1) * 6) l))
-unfolding allAmong
-all-next xs l k h lt = rw (refs-next l k h, among-at xs (refAt l (k * 6)), lt-ltb (firstAt xs (refAt l (k * 6))) (length xs) lt) refl
-
-pub all-stop : (xs : List BlockReference) (l : List ℕ) (k : ℕ) → k < length l / 6 → length xs ≤ firstAt xs (refAt l (k * 6)) → allAmong xs (refsIn (drop (k * 6) l)) ≡ false
-unfolding allAmong
-all-stop xs l k h le = rw (refs-next l k h, among-at xs (refAt l (k * 6)), le-ltb (firstAt xs (refAt l (k * 6))) (length xs) le) refl
-
-pub all-end : (xs : List BlockReference) (l : List ℕ) (k : ℕ) → length l / 6 ≤ k → allAmong xs (refsIn (drop (k * 6) l)) ≡ true
-unfolding allAmong
-all-end xs l k h = rw (refs-end l k h) refl
-
 -- ---- rows written one after another
 
 pub rows-next : (g : BlockReference → ℕ) (l w : List ℕ) (at k : ℕ) → k < length l / 6
@@ -171,16 +158,6 @@ rows-end g l w at k h = rw (refs-end l k h) refl
 
 -- ---- a row that has the reference
 
--- the row of the reference among those from row i to row n, counted from i
-unfoldable pub left : List ℕ → ℕ → ℕ → BlockReference → ℕ
-left w i n x = firstAt (refRows w i (n - i)) x
-
-pub left-end : (w : List ℕ) (n : ℕ) (x : BlockReference) → left w n n x ≡ 0
-unfolding left firstAt refRows
-left-end w n x =
-    let z : n - n ≡ 0 = omega arith in
-    rw z refl
-
 one-more : (w : List ℕ) (i n : ℕ) → i < n → refRows w i (n - i) ≡ refAt w (i * 8) ∷ refRows w (i + 1) (n - (i + 1))
 unfolding refRows
 one-more w i n lt =
@@ -188,23 +165,24 @@ one-more w i n lt =
     let y : i + 1 ≡ suc i = omega arith in
     rw (z, y) refl
 
-pub left-here : (w : List ℕ) (i n : ℕ) (x : BlockReference) → i < n → same (refAt w (i * 8)) x ≡ true → left w i n x ≡ 0
-unfolding left firstAt
-left-here w i n x lt e = ap (λ l. firstAt l x) (one-more w i n lt) ∙ rw e refl
+module _ (w : List ℕ) (i n : ℕ) (x : BlockReference) where
+  pub from-here : i < n → same (refAt w (i * 8)) x ≡ true → i ≡ rowFrom w i n x
+  unfolding rowFrom firstAt
+  from-here lt e = sym (ap (λ l. i + firstAt l x) (one-more w i n lt) ∙ rw e (omega arith))
 
-pub left-next : (w : List ℕ) (i n : ℕ) (x : BlockReference) → i < n → same (refAt w (i * 8)) x ≡ false → left w i n x ≡ 1 + left w (i + 1) n x
-unfolding left firstAt
-left-next w i n x lt e = ap (λ l. firstAt l x) (one-more w i n lt) ∙ rw e refl
+  pub from-next : i < n → same (refAt w (i * 8)) x ≡ false → rowFrom w (i + 1) n x ≡ rowFrom w i n x
+  unfolding rowFrom firstAt
+  from-next lt e = sym (ap (λ l. i + firstAt l x) (one-more w i n lt) ∙ rw e (omega arith))
 
-pub left-start : (w : List ℕ) (n : ℕ) (x : BlockReference) → left w 0 n x ≡ firstAt (refRows w 0 n) x
-unfolding left
-left-start w n x =
-    let z : n - 0 ≡ n = omega arith in
-    rw z refl
+  pub from-end : n ≤ i → i ≡ rowFrom w i n x
+  unfolding rowFrom firstAt refRows
+  from-end h =
+      let z : n - i ≡ 0 = omega arith in
+      rw z (omega arith)
 
 -- ---- the first waiting row that can go in
 
-module _ (xs : List BlockReference) (x : BlockReference) (waiting named : List ℕ) (i n : ℕ) (h : i < n) where
+module _ (stored : List BlockReference → Bool) (x : BlockReference) (waiting named : List ℕ) (i n : ℕ) (h : i < n) where
   abbrev here : Block
   here = blockAt refsIn 6 waiting named i
 
@@ -215,25 +193,25 @@ module _ (xs : List BlockReference) (x : BlockReference) (waiting named : List �
       let y : i + 1 ≡ suc i = omega arith in
       rw (z, y) refl
 
-  pub freed-here : among (here .includes) x ≡ true → allAmong xs (here .includes) ≡ true → freedRow xs x (blocksFrom refsIn 6 waiting named i (n - i)) ≡ 0
+  pub freed-here : among (here .includes) x ≡ true → stored (here .includes) ≡ true → freedRow stored x (blocksFrom refsIn 6 waiting named i (n - i)) ≡ 0
   unfolding freedRow
-  freed-here a b = ap (freedRow xs x) more ∙ rw (a, b) refl
+  freed-here a b = ap (freedRow stored x) more ∙ rw (a, b) refl
 
-  pub freed-unnamed : among (here .includes) x ≡ false → freedRow xs x (blocksFrom refsIn 6 waiting named i (n - i)) ≡ 1 + freedRow xs x (blocksFrom refsIn 6 waiting named (i + 1) (n - (i + 1)))
+  pub freed-unnamed : among (here .includes) x ≡ false → freedRow stored x (blocksFrom refsIn 6 waiting named i (n - i)) ≡ 1 + freedRow stored x (blocksFrom refsIn 6 waiting named (i + 1) (n - (i + 1)))
   unfolding freedRow
-  freed-unnamed a = ap (freedRow xs x) more ∙ rw a (omega arith)
+  freed-unnamed a = ap (freedRow stored x) more ∙ rw a (omega arith)
 
-  pub freed-lacks : allAmong xs (here .includes) ≡ false → freedRow xs x (blocksFrom refsIn 6 waiting named i (n - i)) ≡ 1 + freedRow xs x (blocksFrom refsIn 6 waiting named (i + 1) (n - (i + 1)))
+  pub freed-lacks : stored (here .includes) ≡ false → freedRow stored x (blocksFrom refsIn 6 waiting named i (n - i)) ≡ 1 + freedRow stored x (blocksFrom refsIn 6 waiting named (i + 1) (n - (i + 1)))
   unfolding freedRow
-  freed-lacks b = ap (freedRow xs x) more ∙ rw (b, off (among (here .includes) x)) (omega arith)
+  freed-lacks b = ap (freedRow stored x) more ∙ rw (b, off (among (here .includes) x)) (omega arith)
     where
       off : (t : Bool) → (t && false) ≡ false
       off true = refl
       off false = refl
 
-pub freed-end : (xs : List BlockReference) (x : BlockReference) (waiting named : List ℕ) (i n : ℕ) → n ≤ i → freedRow xs x (blocksFrom refsIn 6 waiting named i (n - i)) ≡ 0
+pub freed-end : (stored : List BlockReference → Bool) (x : BlockReference) (waiting named : List ℕ) (i n : ℕ) → n ≤ i → freedRow stored x (blocksFrom refsIn 6 waiting named i (n - i)) ≡ 0
 unfolding freedRow blocksFrom
-freed-end xs x waiting named i n h =
+freed-end stored x waiting named i n h =
     let z : n - i ≡ 0 = omega arith in
     rw z refl
 

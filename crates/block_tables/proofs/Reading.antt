@@ -26,7 +26,7 @@ unfolding held allAmong has
 held-all s [] = refl
 held-all s (r ∷ rs) = ap (λ t. among (refs s) r && t) (held-all s rs)
 
-pub freed-row : (s : List Block) (r : BlockReference) (p : List Block) → firstFreed s r p ≡ freedRow (refs s) r p
+pub freed-row : (s : List Block) (r : BlockReference) (p : List Block) → firstFreed s r p ≡ freedRow (allAmong (refs s)) r p
 unfolding firstFreed freedRow freed
 freed-row s r [] = refl
 freed-row s r (b ∷ p) = rw (held-all s (b .includes), freed-row s r p) refl

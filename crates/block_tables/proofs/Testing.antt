@@ -1,11 +1,11 @@
 -- Laws for the functions that test both sides' tables: one for each way round a loop and out of it. Assumes nothing.
-use Prim.Native.Nat.{ℕ, zero, suc, _+_, _-_, _*_, _/_, _≤_, _<_}
+use Prim.Native.Nat.{ℕ, zero, suc, _+_, _-_, _*_, _/_, _≤_, _<_, max}
 use borrow.Author.Tests.{lt-ltb, le-ltb, le-leb, lt-leb, eq-eqb, eqb-true, leb-true, leb-false, ltb-true, not-true}
 use lib.Dec.{eqb, ltb, leb}
-use lib.ListN.{length, take, drop}
+use lib.ListN.{length, take, drop, replicate}
 use mathlib.Core.Bool.{Bool, true, false, not, cond, _&&_, false≢true}
 use mathlib.Core.List.{List, []}
-use mathlib.Core.Logic.{_⊎_, inl, inr}
+use mathlib.Core.Logic.{_⊎_, inl, inr, ⊎-elim}
 use mathlib.Core.Path.{_≡_, refl, sym, ap, _∙_}
 use native.Mathlib.Numerals.{add-one}
 use native.Mathlib.Omega.{arith}
@@ -15,14 +15,18 @@ use Rattle.block_store.specs.Sound.{soundButTwins, soundStore, startOf, usedInc
 use Rattle.block_store.specs.Store.{Store, fieldOf, authorityOf, roundOf, referenceOf, firstOf, countOf}
 use Rattle.block_tables.proofs.Loops.{refs-next, refs-end, among-at, length-refRows}
 use Rattle.block_tables.specs.Reading.{allAmong}
-use Rattle.block_tables.specs.Sound.{storedOf, pendingOf, soundSizes, namedWords, soundNamed, soundRow, soundRows, soundTables, usedIn}
+use Rattle.block_tables.specs.Sound.{storedOf, pendingOf, soundSizes, namedWords, soundNamed, soundRow, soundRows, soundTables, soundBy, usedIn}
 use Rattle.block_tables.specs.Words.{Tables, refRows, stretch}
+use Rattle.index.proofs.Searching.{indexed}
+use Rattle.index.proofs.Turns.{room-enough}
 use Rattle.index.specs.Keys.{referenceKey, distinctKeys}
+use Rattle.index.specs.Places.{hasRoom, orderedRows, frontAfter}
+use Rattle.index.specs.Search.{Indexed}
 use Rattle.offers.specs.Blocks.{among}
 use Rattle.offers.specs.Exact.{firstAt}
 use Rattle.offers.specs.Offers.{below}
 use Rattle.types.proofs.Below.{all-at, all-more}
-use Rattle.types.proofs.Tests.{both, both-left, both-right, fails, clash, tested}
+use Rattle.types.proofs.Tests.{both, both-left, both-right, fails, clash, tested, lt-or-le}
 use Rattle.types.specs.Below.{allBelow}
 use Rattle.types.specs.Limits.{roundLimit, maxIncludes, blockWords, referenceWords, maxBlocks, maxAllIncludes}
 use Rattle.types.specs.References.{refAt, refsIn}
@@ -249,6 +253,112 @@ module _ (size : ℕ) (t : Tables) where
   pub store-says : soundButTwins size (storedOf t) ≡ true → (d : Bool) → d ≡ distinctKeys (referenceKey (t .blocks)) (t .stored) → soundStore size (storedOf t) ≡ d
   store-says e d ed = sound-split size (storedOf t) ∙ rw e (sym (ed ∙ distinct-keys (t .blocks) (t .stored)))
 
+  pub stored-apart : soundTables size t ≡ true → distinctKeys (referenceKey (t .blocks)) (t .stored) ≡ true
+  unfolding soundTables
+  stored-apart e =
+      let s : soundStore size (storedOf t) ≡ true = both-left (soundStore size (storedOf t)) _ e in
+      distinct-keys (t .blocks) (t .stored) ∙ both-right (soundButTwins size (storedOf t)) _ (sym (sound-split size (storedOf t)) ∙ s)
+
+  pub pending-apart : soundTables size t ≡ true → distinctKeys (referenceKey (t .waiting)) (t .pending) ≡ true
+  unfolding soundTables
+  pending-apart e =
+      let e1 = both-right (soundStore size (storedOf t)) _ e in
+      let e2 = both-right (soundSizes (length (t .blocks)) (length (t .includes)) (length (t .waiting)) (length (t .named)) (t .stored) (t .pending)) _ e1 in
+      let e3 = both-right (soundRows size (refRows (t .blocks) 0 (t .stored)) (pendingOf t)) _ e2 in
+      let e4 = both-right (leb (usedIncludes (storedOf t) + usedIncludes (pendingOf t)) (length (t .includes))) _ e3 in
+      distinct-keys (t .waiting) (t .pending) ∙ both-right (zeros (drop (t .pending * blockWords) (t .waiting))) _ e4
+
   -- more rows than a table has
-  pub rows-stop : maxBlocks < t .stored → false ≡ soundTables size t
-  rows-stop h = store-stops (fails (soundStore size (storedOf t)) (λ e. let s = sound size (storedOf t) e in omega (arith, s .rows-used, s .few-rows)))
+  rows-stop : maxBlocks < max (t .stored) (t .pending) → false ≡ soundTables size t
+  unfolding soundTables
+  rows-stop h =
+      sym (fails _ (λ e.
+      let s = sound size (storedOf t) (both-left (soundStore size (storedOf t)) _ e) in
+      let z = sizes-say _ _ _ _ _ _ (both-left (soundSizes (length (t .blocks)) (length (t .includes)) (length (t .waiting)) (length (t .named)) (t .stored) (t .pending)) _ (both-right (soundStore size (storedOf t)) _ e)) in
+      omega (arith, s .few-rows, z .together)))
+
+-- a yes behind a test
+pub and-yes : (a : Bool) {b : Bool} → b ≡ true → a ≡ (a && b)
+and-yes true e = sym e
+and-yes false e = refl
+
+-- ---- by way of areas
+
+-- what the two sorts say and leave, where the second takes the work area that the first left
+pub answer-left : (m rows left work : ℕ) (d a : Bool) → left ≡ work → a ≡ (hasRoom m rows left && d) → a ≡ (hasRoom m rows work && d)
+answer-left m rows left work d a kept e = e ∙ ap (λ (k : ℕ). hasRoom m rows k && d) kept
+
+-- a yes of a sort
+pub sorted-says : (n rows work : ℕ) (d a : Bool) → a ≡ (hasRoom n rows work && d) → a ≡ true → (hasRoom n rows work ≡ true) × (d ≡ true)
+sorted-says n rows work d a e is = (both-left (hasRoom n rows work) d (sym e ∙ is), both-right (hasRoom n rows work) d (sym e ∙ is))
+
+module _ (f g : ℕ → List ℕ) (n m : ℕ) (order others work order' work' others' work'' : List ℕ) (kept : length work' ≡ length work) where
+  pub areas-left : order' ≡ frontAfter (hasRoom n (length order) (length work)) n (orderedRows f n) order
+      → work' ≡ frontAfter (hasRoom n (length order) (length work)) n (replicate n 0) work
+      → others' ≡ frontAfter (hasRoom m (length others) (length work')) m (orderedRows g m) others
+      → work'' ≡ frontAfter (hasRoom m (length others) (length work')) m (replicate m 0) work'
+      → (order' ≡ frontAfter (hasRoom n (length order) (length work)) n (orderedRows f n) order)
+      × ((others' ≡ frontAfter (hasRoom m (length others) (length work)) m (orderedRows g m) others)
+      × (work'' ≡ frontAfter (hasRoom m (length others) (length work)) m (replicate m 0) (frontAfter (hasRoom n (length order) (length work)) n (replicate n 0) work)))
+  areas-left a b c d = (
+    a,
+    (
+      c ∙ ap (λ (k : ℕ). frontAfter (hasRoom m (length others) k) m (orderedRows g m) others) kept,
+      d ∙ ap (λ (k : ℕ). frontAfter (hasRoom m (length others) k) m (replicate m 0) work') kept
+          ∙ ap (λ (l : List ℕ). frontAfter (hasRoom m (length others) (length work)) m (replicate m 0) l) b,
+    ),
+  )
+
+module _ (size : ℕ) (t : Tables) (order others work : ℕ) where
+  pub record ByAreas : Type 0 where
+    pub stored-room : hasRoom (t .stored) order work ≡ true
+    pub pending-room : hasRoom (t .pending) others work ≡ true
+    pub tables-sound : soundTables size t ≡ true
+
+  pub areas-say : soundBy size t order others work ≡ true → ByAreas
+  unfolding soundBy
+  areas-say e =
+      let e1 = both-right (hasRoom (t .stored) order work) _ e in
+      record {
+        stored-room = both-left (hasRoom (t .stored) order work) _ e;
+        pending-room = both-left (hasRoom (t .pending) others work) _ e1;
+        tables-sound = both-right (hasRoom (t .pending) others work) _ e1;
+      }
+
+  pub stored-twins : (a : Bool) → a ≡ (hasRoom (t .stored) order work && distinctKeys (referenceKey (t .blocks)) (t .stored)) → a ≡ false → false ≡ soundBy size t order others work
+  stored-twins a ea shared = sym (fails _ (λ e. let s = areas-say e in clash (ea ∙ both (s .stored-room) (stored-apart size t (s .tables-sound))) shared))
+
+  pub pending-twins : (a : Bool) → a ≡ (hasRoom (t .pending) others work && distinctKeys (referenceKey (t .waiting)) (t .pending)) → a ≡ false → false ≡ soundBy size t order others work
+  pending-twins a ea shared = sym (fails _ (λ e. let s = areas-say e in clash (ea ∙ both (s .pending-room) (pending-apart size t (s .tables-sound))) shared))
+
+  pub areas-stop : false ≡ soundTables size t → false ≡ soundBy size t order others work
+  areas-stop bad = sym (fails _ (λ e. clash (areas-say e .tables-sound) (sym bad)))
+
+  pub areas-end : hasRoom (t .stored) order work ≡ true → hasRoom (t .pending) others work ≡ true → soundTables size t ≡ soundBy size t order others work
+  unfolding soundBy
+  areas-end a b = sym (rw (a, b) refl)
+
+-- areas of as many entries as there are rows on a side
+pub areas-enough : (size : ℕ) (t : Tables) (n : ℕ) → n ≤ maxBlocks → max (t .stored) (t .pending) ≤ n → soundBy size t n n n ≡ soundTables size t
+areas-enough size t n few h =
+    sym (areas-end size t n n n (room-enough (t .stored) n n (omega arith) (omega arith) (omega arith)) (room-enough (t .pending) n n (omega arith) (omega arith) (omega arith)))
+
+-- areas of as many entries as a table has rows are enough for all tables
+pub areas-most : (size : ℕ) (t : Tables) → soundBy size t maxBlocks maxBlocks maxBlocks ≡ soundTables size t
+areas-most size t =
+    ⊎-elim
+    (λ l. let bad = rows-stop size t l in sym (areas-stop size t maxBlocks maxBlocks maxBlocks bad) ∙ bad)
+    (areas-enough size t maxBlocks (omega arith))
+    (lt-or-le maxBlocks (max (t .stored) (t .pending)))
+
+-- the areas that a yes leaves are indexes
+module _ (size : ℕ) (t : Tables) (order others work : ℕ) (e : soundBy size t order others work ≡ true) where
+  pub stored-index : (area entries : List ℕ) → entries ≡ frontAfter (hasRoom (t .stored) order work) (t .stored) (orderedRows (referenceKey (t .blocks)) (t .stored)) area → Indexed (referenceKey (t .blocks)) (t .stored) entries
+  stored-index area entries q =
+      let s = areas-say size t order others work e in
+      indexed (referenceKey (t .blocks)) (t .stored) _ area entries (s .stored-room) (stored-apart size t (s .tables-sound)) q
+
+  pub pending-index : (area entries : List ℕ) → entries ≡ frontAfter (hasRoom (t .pending) others work) (t .pending) (orderedRows (referenceKey (t .waiting)) (t .pending)) area → Indexed (referenceKey (t .waiting)) (t .pending) entries
+  pending-index area entries q =
+      let s = areas-say size t order others work e in
+      indexed (referenceKey (t .waiting)) (t .pending) _ area entries (s .pending-room) (pending-apart size t (s .tables-sound)) q

@@ -10,6 +10,7 @@ use Rattle.types.specs.declared.reference.BlockReference.{BlockReference}
 use Rattle.types.specs.Below.{allBelow}
 use Rattle.types.specs.Limits.{roundLimit, maxIncludes, blockWords, referenceWords, maxAllIncludes}
 use Rattle.types.specs.References.{refAt, refsIn}
+use Rattle.index.specs.Places.{hasRoom}
 use Rattle.block_store.specs.Store.{Store, storeOf, fieldOf, authorityOf, roundOf, referenceOf, firstOf, countOf}
 use Rattle.block_store.specs.Sound.{SoundStore, soundStore, startOf, usedIncludes, distinctRows, zeros}
 use Rattle.offers.specs.Blocks.{among}
@@ -100,6 +101,10 @@ soundTables size t =
     && (soundRows size (refRows (t .blocks) 0 (t .stored)) (pendingOf t)
     && (leb (usedIncludes (storedOf t) + usedIncludes (pendingOf t)) (length (t .includes))
     && (zeros (drop (t .pending * blockWords) (t .waiting)) && distinctRows (t .waiting) (t .pending)))))
+
+-- the same by way of areas: they have room for the rows of both sides
+unfoldable pub soundBy : ℕ → Tables → ℕ → ℕ → ℕ → Bool
+soundBy size t order others work = hasRoom (t .stored) order work && (hasRoom (t .pending) others work && soundTables size t)
 
 -- ---- what goes with it
 

@@ -14,10 +14,9 @@ ghost use Rattle.types.specs.Limits.{referenceWords};
 ghost use Rattle.types.specs.References.{wordsOf, refAt, refsIn};
 ghost use Rattle.block_store.specs.Store.{fieldOf};
 ghost use Rattle.offers.specs.Blocks.{among};
-ghost use Rattle.offers.specs.Exact.{firstAt};
-ghost use Rattle.block_tables.specs.Words.{refRows, stretch, pendingIn};
+ghost use Rattle.block_tables.specs.Words.{stretch};
 ghost use Rattle.block_tables.specs.Edits.{putAt};
-ghost use Rattle.block_tables.specs.Reading.{allAmong, freedRow, reachBelow};
+ghost use Rattle.block_tables.specs.Reading.{rowFrom, reachBelow};
 
 // Reference k of a list of references, six words each.
 pub fn reference_in(list: &[u64], k: usize) -> BlockReference
@@ -30,11 +29,11 @@ pub fn reference_in(list: &[u64], k: usize) -> BlockReference
     reference_at(list, n)
 }
 
-// The first of the n rows that has the reference, n where none has.
-pub fn row_of(blocks: &[u64], n: usize, x: BlockReference) -> usize
-    ensures { λ r. ⌜ r ≡ firstAt (refRows (now (blocks .entry)) 0 n) x ⌝ }
+// The first of the rows from `from` up to n that has the reference; where none has, n, or `from` if that is more.
+pub fn row_from(blocks: &[u64], from: usize, n: usize, x: BlockReference) -> usize
+    ensures { λ r. ⌜ r ≡ rowFrom (now (blocks .entry)) from n x ⌝ }
 {
-    let mut i = 0;
+    let mut i = from;
     while i < n {
         let y = reference_of(blocks, i);
         if y.equals(x) {
@@ -42,7 +41,7 @@ pub fn row_of(blocks: &[u64], n: usize, x: BlockReference) -> usize
         }
         i += 1;
     }
-    n
+    i
 }
 
 // Whether the reference is in the list.
@@ -59,22 +58,6 @@ pub fn names(list: &[u64], x: BlockReference) -> bool
         }
     }
     false
-}
-
-// Whether each reference of the list is that of one of the n rows.
-pub fn all_stored(blocks: &[u64], n: usize, list: &[u64]) -> bool
-    ensures { λ r. ⌜ r ≡ allAmong (refRows (now (blocks .entry)) 0 n) (refsIn (now (list .entry))) ⌝ }
-{
-    let m = list.len() / REFERENCE_WORDS;
-    let mut k = 0;
-    while k < m {
-        let y = reference_in(list, k);
-        k += 1;
-        if n <= row_of(blocks, n, y) {
-            return false;
-        }
-    }
-    true
 }
 
 // `count` words from `first` on, none where they run past the end.
@@ -104,31 +87,6 @@ pub fn named_by<'a>(waiting: &[u64], named: &'a [u64], row: usize) -> &'a [u64]
         return &named[0..0];
     }
     part(named, first * REFERENCE_WORDS, count * REFERENCE_WORDS)
-}
-
-// The first of the pending rows that includes x and has all its includes among the stored rows; their number where there is none.
-pub fn first_freed(
-    blocks: &[u64],
-    stored: usize,
-    waiting: &[u64],
-    named: &[u64],
-    pending: usize,
-    x: BlockReference,
-) -> usize
-    ensures { λ r. ⌜ r ≡ freedRow (refRows (now (blocks .entry)) 0 stored) x (pendingIn (now (waiting .entry)) (now (named .entry)) pending) ⌝ }
-{
-    let mut i = 0;
-    while i < pending {
-        let row = i;
-        i += 1;
-        let list = named_by(waiting, named, row);
-        if names(list, x) {
-            if all_stored(blocks, stored, list) {
-                return row;
-            }
-        }
-    }
-    pending
 }
 
 // One past the last of the rows below t, 0 where there is none.

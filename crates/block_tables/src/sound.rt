@@ -1,12 +1,11 @@
-// The test of both sides' tables: document 01, "Numbers and tables". The stored side's own test, which leaves the stored rows in order of
-// their references; one pass over the pending rows and their includes, looked up among those; one over the unused words; and whether two
-// pending rows share a reference.
+// The test of both sides' tables: document 01, "Numbers and tables". The rows of both sides are put in order of their references, which shows
+// whether two share one; then the stored side's own test; one pass over the pending rows and their includes, looked up among the stored ones;
+// and one over the unused words.
 use crate::Counts;
 use crate::indexed::all_in;
 use crate::indexed::row_in;
 use crate::parts::named_by;
 use crate::parts::reference_in;
-use block_store::distinct::are_distinct;
 use block_store::parts::BLOCK_WORDS;
 use block_store::parts::authority_at;
 use block_store::parts::count_at;
@@ -24,17 +23,17 @@ use types::RoundNumber;
 use types::reference::REFERENCE_WORDS;
 ghost use mathlib.Core.Path.{_≡_};
 ghost use mathlib.Core.Bool.{true};
-ghost use Prim.Native.Nat.{_≤_};
-ghost use lib.ListN.{length};
-ghost use Rattle.types.specs.Limits.{maxBlocks};
-ghost use Rattle.index.specs.Keys.{referenceKey};
+ghost use Prim.Native.Nat.{_≤_, max};
+ghost use lib.ListN.{length, replicate};
+ghost use Rattle.index.specs.Keys.{referenceKey, distinctKeys};
+ghost use Rattle.index.specs.Places.{hasRoom, orderedRows, frontAfter};
 ghost use Rattle.index.specs.Search.{Indexed};
 ghost use Rattle.types.specs.References.{refsIn};
 ghost use Rattle.block_store.specs.Store.{storeOf};
 ghost use Rattle.block_store.specs.Sound.{startOf, soundStore};
 ghost use Rattle.offers.specs.Offers.{below};
 ghost use Rattle.block_tables.specs.Words.{tablesOf, refRows};
-ghost use Rattle.block_tables.specs.Sound.{soundSizes, soundNamed, soundRow, soundRows, soundTables, usedIn, countsIn};
+ghost use Rattle.block_tables.specs.Sound.{soundSizes, soundNamed, soundRow, soundRows, soundTables, soundBy, usedIn, countsIn};
 
 // Whether each reference of the list is by an authority below `size`, and of a round below `round`.
 pub fn all_below(size: u64, round: RoundNumber, list: &[u64]) -> bool
@@ -70,7 +69,7 @@ fn named_are_sound(
     if !all_below(size, round, list) {
         return false;
     }
-    !all_in(blocks, order, true, stored, list)
+    !all_in(blocks, order, stored, stored, list)
 }
 
 // Whether the numbers of a pending row are within limits, its stretch begins at `start`, its reference is new, and its includes are sound.
@@ -102,7 +101,7 @@ fn row_is_sound(
     if first_at(waiting, row) != start {
         return false;
     }
-    if row_in(blocks, order, true, stored, reference_of(waiting, row)) < stored {
+    if row_in(blocks, order, stored, stored, reference_of(waiting, row)) < stored {
         return false;
     }
     named_are_sound(
@@ -210,7 +209,8 @@ pub fn counts_in(blocks: &[u64], stored: usize, waiting: &[u64], pending: usize)
     }
 }
 
-// Whether the tables of both sides are sound, where those of the stored side are and `order` has the stored rows in order.
+// Whether the tables of both sides are sound, where those of the stored side are, `order` has the stored rows in order, and no two pending
+// rows share a reference.
 fn pending_is_sound(
     size: u64,
     blocks: &[u64],
@@ -223,6 +223,7 @@ fn pending_is_sound(
 ) -> bool
     requires { ⌜ soundStore size (storeOf (now blocks) (now includes) stored) ≡ true ⌝ }
     requires { ⌜ Indexed (referenceKey (now blocks)) stored (now order) ⌝ }
+    requires { ⌜ distinctKeys (referenceKey (now waiting)) pending ≡ true ⌝ }
     ensures { λ r. ⌜ r ≡ soundTables size (tablesOf (now (blocks .entry)) (now (includes .entry)) stored (now (waiting .entry)) (now (named .entry)) pending) ⌝ }
 {
     if !sizes_are_sound(
@@ -241,14 +242,13 @@ fn pending_is_sound(
     if includes.len() < used_includes(blocks, stored) + used_includes(waiting, pending) {
         return false;
     }
-    if !zero_from(waiting, pending * BLOCK_WORDS) {
-        return false;
-    }
-    are_distinct(waiting, pending)
+    zero_from(waiting, pending * BLOCK_WORDS)
 }
 
-// Whether the tables of both sides are sound, by way of two areas that have room for the stored rows.
-fn tables_by_index(
+// Whether the tables of both sides are sound, with authorities below `size`, by way of areas with room for the rows. The stored rows stand in
+// order of their references at the front of `order` afterwards, and the pending rows in theirs at the front of `others`, zeros where two share
+// a reference; what is used of `work` is zero. Without room for the rows of a side its area stays as it is, and the answer is no.
+pub fn tables_are_sound_by(
     size: u64,
     blocks: &[u64],
     includes: &[u64],
@@ -257,15 +257,23 @@ fn tables_by_index(
     named: &[u64],
     pending: usize,
     order: &mut [u16],
+    others: &mut [u16],
     work: &mut [u16],
 ) -> bool
-    requires { ⌜ (stored ≤ maxBlocks) × (stored ≤ length (now order)) × (stored ≤ length (now work)) ⌝ }
-    ensures { λ r. ⌜ r ≡ soundTables size (tablesOf (now (blocks .entry)) (now (includes .entry)) stored (now (waiting .entry)) (now (named .entry)) pending) ⌝ }
+    ensures { λ r. ⌜ r ≡ soundBy size (tablesOf (now (blocks .entry)) (now (includes .entry)) stored (now (waiting .entry)) (now (named .entry)) pending) (length (now (order .entry))) (length (now (others .entry))) (length (now (work .entry))) ⌝ }
+    ensures order { λ _. ⌜ now (order .exit) ≡ frontAfter (hasRoom stored (length (now (order .entry))) (length (now (work .entry)))) stored (orderedRows (referenceKey (now (blocks .entry))) stored) (now (order .entry)) ⌝ }
+    ensures others { λ _. ⌜ now (others .exit) ≡ frontAfter (hasRoom pending (length (now (others .entry))) (length (now (work .entry)))) pending (orderedRows (referenceKey (now (waiting .entry))) pending) (now (others .entry)) ⌝ }
+    ensures work { λ _. ⌜ now (work .exit) ≡ frontAfter (hasRoom pending (length (now (others .entry))) (length (now (work .entry)))) pending (replicate pending 0) (frontAfter (hasRoom stored (length (now (order .entry))) (length (now (work .entry)))) stored (replicate stored 0) (now (work .entry))) ⌝ }
 {
-    if !store_is_sound_but_twins(size, blocks, includes, stored) {
+    let stored_apart = index_references(blocks, stored, order, work);
+    let pending_apart = index_references(waiting, pending, others, work);
+    if !stored_apart {
         return false;
     }
-    if !index_references(blocks, stored, order, work) {
+    if !pending_apart {
+        return false;
+    }
+    if !store_is_sound_but_twins(size, blocks, includes, stored) {
         return false;
     }
     pending_is_sound(
@@ -280,7 +288,7 @@ fn tables_by_index(
     )
 }
 
-// The same for at most 256 stored rows.
+// Whether the tables of both sides are sound, for at most 256 rows on a side.
 fn tables_256(
     size: u64,
     blocks: &[u64],
@@ -290,12 +298,13 @@ fn tables_256(
     named: &[u64],
     pending: usize,
 ) -> bool
-    requires { ⌜ stored ≤ 256 ⌝ }
+    requires { ⌜ max stored pending ≤ 256 ⌝ }
     ensures { λ r. ⌜ r ≡ soundTables size (tablesOf (now (blocks .entry)) (now (includes .entry)) stored (now (waiting .entry)) (now (named .entry)) pending) ⌝ }
 {
     let mut order = [0u16; 256];
+    let mut others = [0u16; 256];
     let mut work = [0u16; 256];
-    tables_by_index(
+    tables_are_sound_by(
         size,
         blocks,
         includes,
@@ -304,11 +313,12 @@ fn tables_256(
         named,
         pending,
         &mut order,
+        &mut others,
         &mut work,
     )
 }
 
-// The same for at most 4,096 stored rows.
+// The same for at most 4,096.
 fn tables_4096(
     size: u64,
     blocks: &[u64],
@@ -318,12 +328,13 @@ fn tables_4096(
     named: &[u64],
     pending: usize,
 ) -> bool
-    requires { ⌜ stored ≤ 4096 ⌝ }
+    requires { ⌜ max stored pending ≤ 4096 ⌝ }
     ensures { λ r. ⌜ r ≡ soundTables size (tablesOf (now (blocks .entry)) (now (includes .entry)) stored (now (waiting .entry)) (now (named .entry)) pending) ⌝ }
 {
     let mut order = [0u16; 4096];
+    let mut others = [0u16; 4096];
     let mut work = [0u16; 4096];
-    tables_by_index(
+    tables_are_sound_by(
         size,
         blocks,
         includes,
@@ -332,11 +343,12 @@ fn tables_4096(
         named,
         pending,
         &mut order,
+        &mut others,
         &mut work,
     )
 }
 
-// The same for as many stored rows as a table has.
+// The same for any number; more than a table has are refused.
 fn tables_65536(
     size: u64,
     blocks: &[u64],
@@ -346,12 +358,12 @@ fn tables_65536(
     named: &[u64],
     pending: usize,
 ) -> bool
-    requires { ⌜ stored ≤ maxBlocks ⌝ }
     ensures { λ r. ⌜ r ≡ soundTables size (tablesOf (now (blocks .entry)) (now (includes .entry)) stored (now (waiting .entry)) (now (named .entry)) pending) ⌝ }
 {
     let mut order = [0u16; MAX_BLOCKS];
+    let mut others = [0u16; MAX_BLOCKS];
     let mut work = [0u16; MAX_BLOCKS];
-    tables_by_index(
+    tables_are_sound_by(
         size,
         blocks,
         includes,
@@ -360,8 +372,16 @@ fn tables_65536(
         named,
         pending,
         &mut order,
+        &mut others,
         &mut work,
     )
+}
+
+// The larger of two counts of rows.
+pub fn larger(a: usize, b: usize) -> usize
+    ensures { λ r. ⌜ r ≡ max a b ⌝ }
+{
+    if a < b { b } else { a }
 }
 
 // Whether the tables of both sides are sound, with authorities below `size`.
@@ -376,14 +396,12 @@ pub fn tables_are_sound(
 ) -> bool
     ensures { λ r. ⌜ r ≡ soundTables size (tablesOf (now (blocks .entry)) (now (includes .entry)) stored (now (waiting .entry)) (now (named .entry)) pending) ⌝ }
 {
-    if stored <= 256 {
+    let rows = larger(stored, pending);
+    if rows <= 256 {
         return tables_256(size, blocks, includes, stored, waiting, named, pending);
     }
-    if stored <= 4096 {
+    if rows <= 4096 {
         return tables_4096(size, blocks, includes, stored, waiting, named, pending);
     }
-    if stored <= MAX_BLOCKS {
-        return tables_65536(size, blocks, includes, stored, waiting, named, pending);
-    }
-    false
+    tables_65536(size, blocks, includes, stored, waiting, named, pending)
 }

@@ -10,6 +10,7 @@ use native.Mathlib.Omega.{arith}
 use Rattle.block_tables.proofs.Holding.{refs-from, length-named-table}
 use Rattle.block_tables.proofs.Loops.{refs-next, refs-end, among-at, length-refRows, put-at}
 use Rattle.block_tables.proofs.State.{tested-holds}
+use Rattle.block_tables.proofs.Testing.{and-yes}
 use Rattle.block_tables.proofs.Words.{words-append, length-words, length-named, refs-words, length-pad, pad-more}
 use Rattle.block_tables.specs.Edits.{putAt}
 use Rattle.block_tables.specs.Holding.{Holds}
@@ -17,13 +18,14 @@ use Rattle.block_tables.specs.Sound.{usedIn, countsIn, soundTables}
 use Rattle.block_tables.specs.Words.{refRows, Tables, wordsOfAll, refsOfRows, pad, namedTable, decode}
 use Rattle.committee.specs.Committees.{soundOf}
 use Rattle.committee.specs.declared.Committee.{Committee}
-use Rattle.missing.specs.Missing.{reportedMissing, wantedIn, gatherIn, listed, listArea, missingBlocks, missingArea}
+use Rattle.missing.specs.Missing.{reportedMissing, wantedIn, gatherIn, listed, listArea, missingBy, areaBy, missingBlocks, missingArea}
 use Rattle.missing.specs.declared.Missing.{Missing}
 use Rattle.missing.specs.declared.Missing.the-variants.{Found, Refused}
 use Rattle.offers.specs.Blocks.{State, among, has, isKnown, refs, named, included}
 use Rattle.offers.specs.Exact.{firstAt}
 use Rattle.offers.specs.Missing.{wanted, gather, missing}
 use Rattle.types.proofs.Reports.{numberOf-one}
+use Rattle.types.proofs.Tests.{and-false}
 use Rattle.types.specs.References.{refAt, refsIn, wordsOf}
 use Rattle.types.specs.Reports.{Gives, numberOf}
 use Rattle.types.specs.declared.reference.BlockReference.{BlockReference}
@@ -145,6 +147,58 @@ reportedMissing-one (Found m) (Refused n) e = cc
 reportedMissing-one (Refused m) (Found n) e = cc
 reportedMissing-one (Refused m) (Refused n) e = let h : numberOf m ≡ numberOf n = cc in ap Refused (numberOf-one m n h)
 
+-- ---- the call past the tests of committee and area
+
+module _ (size : ℕ) (t : Tables) (a words : ℕ) where
+  pub by-tables : soundTables size t ≡ false → (reportedMissing (Refused BadTable) ≡ missingBy size t a words) × (replicate words 0 ≡ areaBy size t a words)
+  unfolding missingBy areaBy
+  by-tables f = (rw f refl, rw f refl)
+
+  module _ (f : soundTables size t ≡ true) where
+    pub by-outside : size ≤ a → (reportedMissing (Refused BadArgument) ≡ missingBy size t a words) × (replicate words 0 ≡ areaBy size t a words)
+    unfolding missingBy areaBy
+    by-outside h = (rw (f, le-ltb a size h) refl, rw (f, le-ltb a size h) refl)
+
+    -- what is answered, and written, where nothing is refused before the search
+    pub by-inside : a < size → (missingBy size t a words ≡ listed (missing (decode t) a) words) × (areaBy size t a words ≡ listArea (missing (decode t) a) words)
+    unfolding missingBy areaBy
+    by-inside h = (rw (f, lt-ltb a size h) refl, rw (f, lt-ltb a size h) refl)
+
+    abbrev holds : Holds (length (t .blocks) / 8) (length (t .includes)) (t .blocks) (t .includes) (t .waiting) (t .named) (countsIn (t .blocks) (t .stored) (t .waiting) (t .pending)) (decode t)
+    holds = tested-holds size t f
+
+    module _ (used : ℕ) (eu : used ≡ usedIn (t .waiting) (t .pending)) where
+      total-is : used ≡ included (decode t .pending)
+      total-is = eu ∙ holds .pending-side .total-is
+
+      pub part-fits : used * 6 ≤ length (t .named)
+      part-fits = omega (arith, total-is, holds .pending-side .room, length-named-table (length (t .blocks) / 8) (length (t .includes)) (t .waiting) (t .named) (t .pending) (usedIn (t .waiting) (t .pending)) (decode t .pending) (holds .pending-side))
+
+      all-named : refsIn (take (used * 6) (t .named)) ≡ named (decode t .pending)
+      unfolding namedTable pad
+      all-named =
+          ap (λ (l : List ℕ). refsIn (take (used * 6) l)) (holds .pending-side .named-are)
+          ∙ ap refsIn (take-at (wordsOfAll (named (decode t .pending))) (replicate (length (t .includes) * 6 - length (wordsOfAll (named (decode t .pending)))) 0) (used * 6) (length-words (named (decode t .pending)) ∙ ap (λ (j : ℕ). j * 6) (length-named (decode t .pending) ∙ sym total-is)))
+          ∙ refs-words (named (decode t .pending))
+
+      result-is : gatherIn (refRows (t .blocks) 0 (t .stored)) (refRows (t .waiting) 0 (t .pending)) a [] (refsIn (take (used * 6) (t .named))) ≡ missing (decode t) a
+      result-is =
+          ap (λ (l : List BlockReference). gatherIn l (refRows (t .waiting) 0 (t .pending)) a [] (refsIn (take (used * 6) (t .named)))) (sym (refs-from (refsOfRows (t .blocks)) 1 (t .blocks) (t .includes) 0 (t .stored)))
+          ∙ ap (λ (l : List BlockReference). gatherIn (refs (decode t .stored)) l a [] (refsIn (take (used * 6) (t .named)))) (sym (refs-from refsIn 6 (t .waiting) (t .named) 0 (t .pending)))
+          ∙ ap (λ (l : List BlockReference). gatherIn (refs (decode t .stored)) (refs (decode t .pending)) a [] l) all-named
+          ∙ missing-same (decode t) a
+
+      pub by-done : a < size → (list : List ℕ) → list ≡ take (used * 6 - 0) (t .named) → (r : Missing) (area : List ℕ)
+          → reportedMissing r ≡ listed (gatherIn (refRows (t .blocks) 0 (t .stored)) (refRows (t .waiting) 0 (t .pending)) a [] (refsIn list)) words
+          → area ≡ listArea (gatherIn (refRows (t .blocks) 0 (t .stored)) (refRows (t .waiting) 0 (t .pending)) a [] (refsIn list)) words
+          → (reportedMissing r ≡ missingBy size t a words) × (area ≡ areaBy size t a words)
+      by-done h list el r area er ea =
+          let z : used * 6 - 0 ≡ used * 6 = omega arith in
+          let same = ap (λ (l : List ℕ). gatherIn (refRows (t .blocks) 0 (t .stored)) (refRows (t .waiting) 0 (t .pending)) a [] (refsIn l)) (el ∙ ap (λ (j : ℕ). take j (t .named)) z) ∙ result-is in (
+            er ∙ ap (λ (l : List BlockReference). listed l words) same ∙ sym (by-inside h .0),
+            ea ∙ ap (λ (l : List BlockReference). listArea l words) same ∙ sym (by-inside h .1),
+          )
+
 -- ---- the call
 
 module _ (c : Committee) (t : Tables) (a words : ℕ) where
@@ -153,56 +207,18 @@ module _ (c : Committee) (t : Tables) (a words : ℕ) where
   call-committee e = (rw e refl, rw e refl)
 
   module _ (e : soundOf c ≡ true) where
-    pub call-tables : soundTables (c .size) t ≡ false → (reportedMissing (Refused BadTable) ≡ missingBlocks c t a words) × (replicate words 0 ≡ missingArea c t a words)
+    pub call-uneven : (words % 6 ≡ 0 → ⊥) → (reportedMissing (Refused BadTable) ≡ missingBlocks c t a words) × (replicate words 0 ≡ missingArea c t a words)
     unfolding missingBlocks missingArea
-    call-tables f = (rw (e, f) refl, rw (e, f) refl)
+    call-uneven n = let q = ne-eqb (words % 6) 0 n in (rw (e, q, and-false (soundTables (c .size) t)) refl, rw (e, q, and-false (soundTables (c .size) t)) refl)
 
-    module _ (f : soundTables (c .size) t ≡ true) where
-      pub call-uneven : (words % 6 ≡ 0 → ⊥) → (reportedMissing (Refused BadTable) ≡ missingBlocks c t a words) × (replicate words 0 ≡ missingArea c t a words)
-      unfolding missingBlocks missingArea
-      call-uneven n = (rw (e, f, ne-eqb (words % 6) 0 n) refl, rw (e, f, ne-eqb (words % 6) 0 n) refl)
+    module _ (whole : words % 6 ≡ 0) where
+      past : (missingBlocks c t a words ≡ missingBy (c .size) t a words) × (missingArea c t a words ≡ areaBy (c .size) t a words)
+      unfolding missingBlocks missingArea missingBy areaBy
+      past = let q = sym (and-yes (soundTables (c .size) t) (eq-eqb (words % 6) 0 whole)) in (rw (e, q) refl, rw (e, q) refl)
 
-      module _ (whole : words % 6 ≡ 0) where
-        pub call-outside : c .size ≤ a → (reportedMissing (Refused BadArgument) ≡ missingBlocks c t a words) × (replicate words 0 ≡ missingArea c t a words)
-        unfolding missingBlocks missingArea
-        call-outside h = (rw (e, f, eq-eqb (words % 6) 0 whole, le-ltb a (c .size) h) refl, rw (e, f, eq-eqb (words % 6) 0 whole, le-ltb a (c .size) h) refl)
+      pub call-rest : (r : Missing) (area : List ℕ) → (reportedMissing r ≡ missingBy (c .size) t a words) × (area ≡ areaBy (c .size) t a words)
+          → (reportedMissing r ≡ missingBlocks c t a words) × (area ≡ missingArea c t a words)
+      call-rest r area is = (is .0 ∙ sym (past .0), is .1 ∙ sym (past .1))
 
-        -- what is answered, and written, where nothing is refused before the search
-        pub call-inside : a < c .size → (missingBlocks c t a words ≡ listed (missing (decode t) a) words) × (missingArea c t a words ≡ listArea (missing (decode t) a) words)
-        unfolding missingBlocks missingArea
-        call-inside h = (rw (e, f, eq-eqb (words % 6) 0 whole, lt-ltb a (c .size) h) refl, rw (e, f, eq-eqb (words % 6) 0 whole, lt-ltb a (c .size) h) refl)
-
-        abbrev holds : Holds (length (t .blocks) / 8) (length (t .includes)) (t .blocks) (t .includes) (t .waiting) (t .named) (countsIn (t .blocks) (t .stored) (t .waiting) (t .pending)) (decode t)
-        holds = tested-holds (c .size) t f
-
-        module _ (used : ℕ) (eu : used ≡ usedIn (t .waiting) (t .pending)) where
-          total-is : used ≡ included (decode t .pending)
-          total-is = eu ∙ holds .pending-side .total-is
-
-          pub part-fits : used * 6 ≤ length (t .named)
-          part-fits = omega (arith, total-is, holds .pending-side .room, length-named-table (length (t .blocks) / 8) (length (t .includes)) (t .waiting) (t .named) (t .pending) (usedIn (t .waiting) (t .pending)) (decode t .pending) (holds .pending-side))
-
-          all-named : refsIn (take (used * 6) (t .named)) ≡ named (decode t .pending)
-          unfolding namedTable pad
-          all-named =
-              ap (λ (l : List ℕ). refsIn (take (used * 6) l)) (holds .pending-side .named-are)
-              ∙ ap refsIn (take-at (wordsOfAll (named (decode t .pending))) (replicate (length (t .includes) * 6 - length (wordsOfAll (named (decode t .pending)))) 0) (used * 6) (length-words (named (decode t .pending)) ∙ ap (λ (j : ℕ). j * 6) (length-named (decode t .pending) ∙ sym total-is)))
-              ∙ refs-words (named (decode t .pending))
-
-          result-is : gatherIn (refRows (t .blocks) 0 (t .stored)) (refRows (t .waiting) 0 (t .pending)) a [] (refsIn (take (used * 6) (t .named))) ≡ missing (decode t) a
-          result-is =
-              ap (λ (l : List BlockReference). gatherIn l (refRows (t .waiting) 0 (t .pending)) a [] (refsIn (take (used * 6) (t .named)))) (sym (refs-from (refsOfRows (t .blocks)) 1 (t .blocks) (t .includes) 0 (t .stored)))
-              ∙ ap (λ (l : List BlockReference). gatherIn (refs (decode t .stored)) l a [] (refsIn (take (used * 6) (t .named)))) (sym (refs-from refsIn 6 (t .waiting) (t .named) 0 (t .pending)))
-              ∙ ap (λ (l : List BlockReference). gatherIn (refs (decode t .stored)) (refs (decode t .pending)) a [] l) all-named
-              ∙ missing-same (decode t) a
-
-          pub call-done : a < c .size → (list : List ℕ) → list ≡ take (used * 6 - 0) (t .named) → (r : Missing) (area : List ℕ)
-              → reportedMissing r ≡ listed (gatherIn (refRows (t .blocks) 0 (t .stored)) (refRows (t .waiting) 0 (t .pending)) a [] (refsIn list)) words
-              → area ≡ listArea (gatherIn (refRows (t .blocks) 0 (t .stored)) (refRows (t .waiting) 0 (t .pending)) a [] (refsIn list)) words
-              → (reportedMissing r ≡ missingBlocks c t a words) × (area ≡ missingArea c t a words)
-          call-done h list el r area er ea =
-              let z : used * 6 - 0 ≡ used * 6 = omega arith in
-              let same = ap (λ (l : List ℕ). gatherIn (refRows (t .blocks) 0 (t .stored)) (refRows (t .waiting) 0 (t .pending)) a [] (refsIn l)) (el ∙ ap (λ (j : ℕ). take j (t .named)) z) ∙ result-is in (
-                er ∙ ap (λ (l : List BlockReference). listed l words) same ∙ sym (call-inside h .0),
-                ea ∙ ap (λ (l : List BlockReference). listArea l words) same ∙ sym (call-inside h .1),
-              )
+      pub call-inside : soundTables (c .size) t ≡ true → a < c .size → (missingBlocks c t a words ≡ listed (missing (decode t) a) words) × (missingArea c t a words ≡ listArea (missing (decode t) a) words)
+      call-inside f h = let r = by-inside (c .size) t a words f h in (past .0 ∙ r .0, past .1 ∙ r .1)

@@ -15,4 +15,4 @@ use Rattle.types.specs.Limits.{maxBlocks, maxAllIncludes}
 
 pub calls-missing : (B R : ℕ) → B ≤ maxBlocks → R ≤ maxAllIncludes → (cs : List Call) (c : Committee) → soundOf c ≡ true → largest cs ≤ c .size → (a words : ℕ) → a < c .size → words % 6 ≡ 0
     → (missingBlocks c (calls B R cs .tables) a words ≡ listed (missing (runOf (calls B R cs) .state) a) words) × (missingArea c (calls B R cs .tables) a words ≡ listArea (missing (runOf (calls B R cs) .state) a) words)
-calls-missing B R few-rows few-includes cs c e le a words la whole = call-inside c (calls B R cs .tables) a words e (calls-sound B R few-rows few-includes cs (c .size) le) whole la
+calls-missing B R few-rows few-includes cs c e le a words la whole = call-inside c (calls B R cs .tables) a words e whole (calls-sound B R few-rows few-includes cs (c .size) le) la

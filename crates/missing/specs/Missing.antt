@@ -42,6 +42,14 @@ unfoldable pub missingArea : Committee → Tables → ℕ → ℕ → List ℕ
 missingArea c t a words =
     cond (soundOf c && ((soundTables (c .size) t && eqb (words % referenceWords) 0) && ltb a (c .size))) (listArea (missing (decode t) a) words) (replicate words 0)
 
+-- ---- what the parts of the call answer, where the committee is sound and the area is of whole rows
+
+unfoldable pub missingBy : ℕ → Tables → ℕ → ℕ → Report
+missingBy size t a words = cond (soundTables size t) (cond (ltb a size) (listed (missing (decode t) a) words) (Refuses 4)) (Refuses 3)
+
+unfoldable pub areaBy : ℕ → Tables → ℕ → ℕ → List ℕ
+areaBy size t a words = cond (soundTables size t && ltb a size) (listArea (missing (decode t) a) words) (replicate words 0)
+
 -- ---- what the loop finds: `offers`' wanted and gather, on the references in the tables
 
 unfoldable pub wantedIn : List BlockReference → List BlockReference → ℕ → List BlockReference → BlockReference → Bool

@@ -1,9 +1,11 @@
 // The missing list of one authority: block_manager.rs, missing_blocks. No public function has a `requires`.
+use block_store::sound::MAX_BLOCKS;
+use block_tables::indexed::row_in;
 use block_tables::parts::names;
 use block_tables::parts::put_reference;
 use block_tables::parts::reference_in;
-use block_tables::parts::row_of;
-use block_tables::sound::tables_are_sound;
+use block_tables::sound::larger;
+use block_tables::sound::tables_are_sound_by;
 use block_tables::sound::used_includes;
 use committee::Committee;
 use committee::parts::is_sound;
@@ -14,10 +16,14 @@ use types::reference::REFERENCE_WORDS;
 use types::words::clear;
 ghost use mathlib.Core.Path.{_≡_};
 ghost use mathlib.Core.List.{[]};
+ghost use Prim.Native.Nat.{_≤_, max};
 ghost use lib.ListN.{length};
 ghost use Rattle.types.specs.References.{refsIn};
+ghost use Rattle.index.specs.Keys.{referenceKey};
+ghost use Rattle.index.specs.Search.{Indexed};
 ghost use Rattle.block_tables.specs.Words.{refRows, tablesOf};
-ghost use Rattle.missing.specs.Missing.{reportedMissing, wantedIn, gatherIn, listed, listArea, missingBlocks, missingArea};
+ghost use Rattle.block_tables.specs.Sound.{soundTables, soundBy};
+ghost use Rattle.missing.specs.Missing.{reportedMissing, wantedIn, gatherIn, listed, listArea, missingBy, areaBy, missingBlocks, missingArea};
 
 // How many references were found, or the refusal.
 pub enum Missing {
@@ -25,25 +31,30 @@ pub enum Missing {
     Refused(Refusal),
 }
 
-// Whether the reference is the authority's, no accepted block has it, and it is not found yet.
+// Whether the reference is the authority's, no accepted block has it, and it is not found yet; `order` has the stored rows in order, and
+// `others` the pending ones.
 fn wanted(
     blocks: &[u64],
+    order: &[u16],
     stored: usize,
     waiting: &[u64],
+    others: &[u16],
     pending: usize,
     authority: AuthorityIndex,
     found: &[u64],
     x: BlockReference,
 ) -> bool
+    requires { ⌜ Indexed (referenceKey (now blocks)) stored (now order) ⌝ }
+    requires { ⌜ Indexed (referenceKey (now waiting)) pending (now others) ⌝ }
     ensures { λ r. ⌜ r ≡ wantedIn (refRows (now (blocks .entry)) 0 stored) (refRows (now (waiting .entry)) 0 pending) (authority .0) (refsIn (now (found .entry))) x ⌝ }
 {
     if x.authority.0 != authority.0 {
         return false;
     }
-    if row_of(blocks, stored, x) < stored {
+    if row_in(blocks, order, stored, stored, x) < stored {
         return false;
     }
-    if row_of(waiting, pending, x) < pending {
+    if row_in(waiting, others, pending, pending, x) < pending {
         return false;
     }
     !names(found, x)
@@ -52,13 +63,17 @@ fn wanted(
 // The wanted references of a list, each once, in the order in which they are first named.
 fn gather(
     blocks: &[u64],
+    order: &[u16],
     stored: usize,
     waiting: &[u64],
+    others: &[u16],
     pending: usize,
     authority: AuthorityIndex,
     list: &[u64],
     area: &mut [u64],
 ) -> Missing
+    requires { ⌜ Indexed (referenceKey (now blocks)) stored (now order) ⌝ }
+    requires { ⌜ Indexed (referenceKey (now waiting)) pending (now others) ⌝ }
     ensures { λ r. ⌜ reportedMissing r ≡ listed (gatherIn (refRows (now (blocks .entry)) 0 stored) (refRows (now (waiting .entry)) 0 pending) (authority .0) [] (refsIn (now (list .entry)))) (length (now (area .entry))) ⌝ }
     ensures filled { λ _. ⌜ now (area .exit) ≡ listArea (gatherIn (refRows (now (blocks .entry)) 0 stored) (refRows (now (waiting .entry)) 0 pending) (authority .0) [] (refsIn (now (list .entry)))) (length (now (area .entry))) ⌝ }
 {
@@ -72,8 +87,10 @@ fn gather(
         let used = n * REFERENCE_WORDS;
         if wanted(
             blocks,
+            order,
             stored,
             waiting,
+            others,
             pending,
             authority,
             &area[0..used],
@@ -89,6 +106,162 @@ fn gather(
         }
     }
     Missing::Found(n)
+}
+
+// The tests of tables and authority, and the list, by way of areas with room for the rows of both sides.
+fn missing_by(
+    size: u64,
+    blocks: &[u64],
+    includes: &[u64],
+    stored: usize,
+    waiting: &[u64],
+    named: &[u64],
+    pending: usize,
+    order: &mut [u16],
+    others: &mut [u16],
+    work: &mut [u16],
+    authority: AuthorityIndex,
+    area: &mut [u64],
+) -> Missing
+    requires { ⌜ soundBy size (tablesOf (now blocks) (now includes) stored (now waiting) (now named) pending) (length (now order)) (length (now others)) (length (now work)) ≡ soundTables size (tablesOf (now blocks) (now includes) stored (now waiting) (now named) pending) ⌝ }
+    ensures { λ r. ⌜ reportedMissing r ≡ missingBy size (tablesOf (now (blocks .entry)) (now (includes .entry)) stored (now (waiting .entry)) (now (named .entry)) pending) (authority .0) (length (now (area .entry))) ⌝ }
+    ensures filled { λ _. ⌜ now (area .exit) ≡ areaBy size (tablesOf (now (blocks .entry)) (now (includes .entry)) stored (now (waiting .entry)) (now (named .entry)) pending) (authority .0) (length (now (area .entry))) ⌝ }
+{
+    if !tables_are_sound_by(
+        size,
+        blocks,
+        includes,
+        stored,
+        waiting,
+        named,
+        pending,
+        order,
+        others,
+        work,
+    ) {
+        clear(area);
+        return Missing::Refused(Refusal::BadTable);
+    }
+    if size <= authority.0 {
+        clear(area);
+        return Missing::Refused(Refusal::BadArgument);
+    }
+    let used = used_includes(waiting, pending) * REFERENCE_WORDS;
+    gather(
+        blocks,
+        order,
+        stored,
+        waiting,
+        others,
+        pending,
+        authority,
+        &named[0..used],
+        area,
+    )
+}
+
+// The same for at most 256 rows on a side.
+fn missing_256(
+    size: u64,
+    blocks: &[u64],
+    includes: &[u64],
+    stored: usize,
+    waiting: &[u64],
+    named: &[u64],
+    pending: usize,
+    authority: AuthorityIndex,
+    area: &mut [u64],
+) -> Missing
+    requires { ⌜ max stored pending ≤ 256 ⌝ }
+    ensures { λ r. ⌜ reportedMissing r ≡ missingBy size (tablesOf (now (blocks .entry)) (now (includes .entry)) stored (now (waiting .entry)) (now (named .entry)) pending) (authority .0) (length (now (area .entry))) ⌝ }
+    ensures filled { λ _. ⌜ now (area .exit) ≡ areaBy size (tablesOf (now (blocks .entry)) (now (includes .entry)) stored (now (waiting .entry)) (now (named .entry)) pending) (authority .0) (length (now (area .entry))) ⌝ }
+{
+    let mut order = [0u16; 256];
+    let mut others = [0u16; 256];
+    let mut work = [0u16; 256];
+    missing_by(
+        size,
+        blocks,
+        includes,
+        stored,
+        waiting,
+        named,
+        pending,
+        &mut order,
+        &mut others,
+        &mut work,
+        authority,
+        area,
+    )
+}
+
+// The same for at most 4,096.
+fn missing_4096(
+    size: u64,
+    blocks: &[u64],
+    includes: &[u64],
+    stored: usize,
+    waiting: &[u64],
+    named: &[u64],
+    pending: usize,
+    authority: AuthorityIndex,
+    area: &mut [u64],
+) -> Missing
+    requires { ⌜ max stored pending ≤ 4096 ⌝ }
+    ensures { λ r. ⌜ reportedMissing r ≡ missingBy size (tablesOf (now (blocks .entry)) (now (includes .entry)) stored (now (waiting .entry)) (now (named .entry)) pending) (authority .0) (length (now (area .entry))) ⌝ }
+    ensures filled { λ _. ⌜ now (area .exit) ≡ areaBy size (tablesOf (now (blocks .entry)) (now (includes .entry)) stored (now (waiting .entry)) (now (named .entry)) pending) (authority .0) (length (now (area .entry))) ⌝ }
+{
+    let mut order = [0u16; 4096];
+    let mut others = [0u16; 4096];
+    let mut work = [0u16; 4096];
+    missing_by(
+        size,
+        blocks,
+        includes,
+        stored,
+        waiting,
+        named,
+        pending,
+        &mut order,
+        &mut others,
+        &mut work,
+        authority,
+        area,
+    )
+}
+
+// The same for any number; more than a table has are refused.
+fn missing_65536(
+    size: u64,
+    blocks: &[u64],
+    includes: &[u64],
+    stored: usize,
+    waiting: &[u64],
+    named: &[u64],
+    pending: usize,
+    authority: AuthorityIndex,
+    area: &mut [u64],
+) -> Missing
+    ensures { λ r. ⌜ reportedMissing r ≡ missingBy size (tablesOf (now (blocks .entry)) (now (includes .entry)) stored (now (waiting .entry)) (now (named .entry)) pending) (authority .0) (length (now (area .entry))) ⌝ }
+    ensures filled { λ _. ⌜ now (area .exit) ≡ areaBy size (tablesOf (now (blocks .entry)) (now (includes .entry)) stored (now (waiting .entry)) (now (named .entry)) pending) (authority .0) (length (now (area .entry))) ⌝ }
+{
+    let mut order = [0u16; MAX_BLOCKS];
+    let mut others = [0u16; MAX_BLOCKS];
+    let mut work = [0u16; MAX_BLOCKS];
+    missing_by(
+        size,
+        blocks,
+        includes,
+        stored,
+        waiting,
+        named,
+        pending,
+        &mut order,
+        &mut others,
+        &mut work,
+        authority,
+        area,
+    )
 }
 
 // The references of an authority that pending blocks include and no accepted block has, into an area of six-word rows: each once, in the
@@ -111,27 +284,47 @@ pub fn missing_blocks(
         clear(area);
         return Missing::Refused(Refusal::BadCommittee);
     }
-    let size = committee.size;
-    if !tables_are_sound(size, blocks, includes, stored, waiting, named, pending) {
-        clear(area);
-        return Missing::Refused(Refusal::BadTable);
-    }
     if area.len() % REFERENCE_WORDS != 0 {
         clear(area);
         return Missing::Refused(Refusal::BadTable);
     }
-    if size <= authority.0 {
-        clear(area);
-        return Missing::Refused(Refusal::BadArgument);
+    let size = committee.size;
+    let rows = larger(stored, pending);
+    if rows <= 256 {
+        return missing_256(
+            size,
+            blocks,
+            includes,
+            stored,
+            waiting,
+            named,
+            pending,
+            authority,
+            area,
+        );
     }
-    let used = used_includes(waiting, pending) * REFERENCE_WORDS;
-    gather(
+    if rows <= 4096 {
+        return missing_4096(
+            size,
+            blocks,
+            includes,
+            stored,
+            waiting,
+            named,
+            pending,
+            authority,
+            area,
+        );
+    }
+    missing_65536(
+        size,
         blocks,
+        includes,
         stored,
         waiting,
+        named,
         pending,
         authority,
-        &named[0..used],
         area,
     )
 }

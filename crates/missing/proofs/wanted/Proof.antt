@@ -2,8 +2,9 @@
 use borrow.Author.Needs.{needs}
 use borrow.Author.Tests.{eq-eqb, ne-eqb}
 use mathlib.Core.Bool.{not}
-use mathlib.Core.Path.{refl, ap}
+use mathlib.Core.Path.{refl, ap, _∙_}
 use native.Mathlib.Omega.{arith}
+use Rattle.block_tables.proofs.Lookups.{whole-front, looked-up}
 use Rattle.missing.proofs.Gathering.{row-has, row-lacks}
 use Rattle.missing.specs.Missing.{wantedIn}
 use Rattle.missing.proofs.wanted.Statement.{statement}
@@ -11,25 +12,25 @@ use Rattle.missing.proofs.wanted.Tie as tie
 
 returns : tie.Need-returns
 unfolding wantedIn
-returns c = rw (ne-eqb (c .before .before .before .before .before .before .args .x .authority .0) (c .before .before .before .before .before .before .args .authority .0) (c .if1 .taken)) refl
+returns c = rw (ne-eqb (c .before .before .before .before .before .before .before .before .args .x .authority .0) (c .before .before .before .before .before .before .before .before .args .authority .0) (c .if1 .taken)) refl
 
-row-of-requires : tie.Need-row-of-requires
-row-of-requires c κs = search needs
+row-in-requires : tie.Need-row-in-requires
+row-in-requires c κs = search needs
 
 returns-2 : tie.Need-returns-2
 unfolding wantedIn
 returns-2 c =
-    let a = c .before .before .before .before .before .before .before .before .args in
-    rw (eq-eqb (a .x .authority .0) (a .authority .0) (c .before .before .if1 .left), row-has (a .blocks .now) (a .stored) (a .x) (omega (arith, c .before .row-of .ensures))) refl
+    let a = c .before .before .before .before .before .before .before .before .before .before .args in
+    rw (eq-eqb (a .x .authority .0) (a .authority .0) (c .before .before .if1 .left), row-has (a .blocks .now) (a .stored) (a .x) (omega (arith, c .before .row-in .ensures ∙ looked-up (a .blocks .now) (a .order .now) (a .stored) (a .stored) (a .x) (whole-front _ _ _ (c .before .before .before .before .before .before .before .before .before .before .pre .0))))) refl
 
-row-of-requires-2 : tie.Need-row-of-requires-2
-row-of-requires-2 c κs = search needs
+row-in-requires-2 : tie.Need-row-in-requires-2
+row-in-requires-2 c κs = search needs
 
 returns-3 : tie.Need-returns-3
 unfolding wantedIn
 returns-3 c =
-    let a = c .before .before .before .before .before .before .before .before .before .before .args in
-    rw (eq-eqb (a .x .authority .0) (a .authority .0) (c .before .before .before .before .if1 .left), row-lacks (a .blocks .now) (a .stored) (a .x) (omega (arith, c .before .before .before .row-of .ensures, c .before .before .if2 .left)), row-has (a .waiting .now) (a .pending) (a .x) (omega (arith, c .before .row-of2 .ensures))) refl
+    let a = c .before .before .before .before .before .before .before .before .before .before .before .before .args in
+    rw (eq-eqb (a .x .authority .0) (a .authority .0) (c .before .before .before .before .if1 .left), row-lacks (a .blocks .now) (a .stored) (a .x) (omega (arith, c .before .before .before .row-in .ensures ∙ looked-up (a .blocks .now) (a .order .now) (a .stored) (a .stored) (a .x) (whole-front _ _ _ (c .before .before .before .before .before .before .before .before .before .before .before .before .pre .0)), c .before .before .if2 .left)), row-has (a .waiting .now) (a .pending) (a .x) (omega (arith, c .before .row-in2 .ensures ∙ looked-up (a .waiting .now) (a .others .now) (a .pending) (a .pending) (a .x) (whole-front _ _ _ (c .before .before .before .before .before .before .before .before .before .before .before .before .pre .1))))) refl
 
 names-requires : tie.Need-names-requires
 names-requires c κs = search needs
@@ -37,17 +38,17 @@ names-requires c κs = search needs
 returns-4 : tie.Need-returns-4
 unfolding wantedIn
 returns-4 c =
-    let a = c .before .before .before .before .before .before .before .before .before .before .before .args in
-    rw (eq-eqb (a .x .authority .0) (a .authority .0) (c .before .before .before .before .before .if1 .left), row-lacks (a .blocks .now) (a .stored) (a .x) (omega (arith, c .before .before .before .before .row-of .ensures, c .before .before .before .if2 .left)), row-lacks (a .waiting .now) (a .pending) (a .x) (omega (arith, c .before .before .row-of2 .ensures, c .before .if3 .left))) (ap not (c .names .ensures))
+    let a = c .before .before .before .before .before .before .before .before .before .before .before .before .before .args in
+    rw (eq-eqb (a .x .authority .0) (a .authority .0) (c .before .before .before .before .before .if1 .left), row-lacks (a .blocks .now) (a .stored) (a .x) (omega (arith, c .before .before .before .before .row-in .ensures ∙ looked-up (a .blocks .now) (a .order .now) (a .stored) (a .stored) (a .x) (whole-front _ _ _ (c .before .before .before .before .before .before .before .before .before .before .before .before .before .pre .0)), c .before .before .before .if2 .left)), row-lacks (a .waiting .now) (a .pending) (a .x) (omega (arith, c .before .before .row-in2 .ensures ∙ looked-up (a .waiting .now) (a .others .now) (a .pending) (a .pending) (a .x) (whole-front _ _ _ (c .before .before .before .before .before .before .before .before .before .before .before .before .before .pre .1)), c .before .if3 .left))) (ap not (c .names .ensures))
 
 pub wanted-spec : {M : Type 1} → statement M
 wanted-spec =
     tie.close
     (tie.spec
     returns
-    row-of-requires
+    row-in-requires
     returns-2
-    row-of-requires-2
+    row-in-requires-2
     returns-3
     names-requires
     returns-4)

@@ -51,7 +51,7 @@ loop-again : tie.Need-loop-again Inv-loop μ-loop
 loop-again c =
     let a = c .before .before .before .before .before .before .before .before .args in
     let g = firstAt (refRows (a .blocks .now) 0 (a .stored)) in
-    let v = c .row-in .ensures ∙ looked-up (a .sorted) (a .blocks .now) (a .order .now) (a .stored) _ (c .before .before .before .before .before .before .before .before .pre .0) ∙ ap g (c .before .reference-in .ensures) in
+    let v = c .row-in .ensures ∙ looked-up (a .blocks .now) (a .order .now) (a .sorted) (a .stored) _ (c .before .before .before .before .before .before .before .before .pre .0) ∙ ap g (c .before .reference-in .ensures) in
     (omega arith, c .before .before .before .loop .inv .1, simp length-set (c .before .before .before .loop .inv .2), ap (λ j. sets (set (c .before .before .before .loop .includes) (a .at + c .before .before .before .loop .k) j) (a .at + (c .before .before .before .loop .k + 1)) (map g (refsIn (drop ((c .before .before .before .loop .k + 1) * 6) (a .list .now))))) v ∙ sym (rows-next g (a .list .now) (c .before .before .before .loop .includes) (a .at) (c .before .before .before .loop .k) (omega (arith, c .before .before .before .loop .inv .1))) ∙ c .before .before .before .loop .inv .3)
 
 same-length : tie.Need-same-length Inv-loop μ-loop

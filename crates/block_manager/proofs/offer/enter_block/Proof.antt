@@ -1,22 +1,23 @@
 -- The block is stored, and the cascade runs from a state that `can-climb` admits.
 use borrow.Author.Needs.{needs}
-use Rattle.block_manager.proofs.Offering.{can-climb, now-entered}
+use Rattle.block_manager.proofs.Offering.{front-first, can-climb, now-entered}
+use Rattle.block_tables.proofs.Lookups.{whole-front}
 use Rattle.block_manager.proofs.offer.enter_block.Statement.{statement}
 use Rattle.block_manager.proofs.offer.enter_block.Tie as tie
 
 store-block-requires : tie.Need-store-block-requires
-store-block-requires c κs = (c .before .before .before .before .before .before .before .before .pre .0, search needs)
+store-block-requires c κs = (whole-front _ _ _ (c .before .before .before .before .before .before .before .before .pre .0), search needs)
 
-add-t17 : tie.Need-add-t17
-add-t17 c = search needs
+add-t16 : tie.Need-add-t16
+add-t16 c = search needs
 
-add-t23 : tie.Need-add-t23
-add-t23 c = search needs
+add-t22 : tie.Need-add-t22
+add-t22 c = search needs
 
 cascade-requires : tie.Need-cascade-requires
 cascade-requires c κs =
     let a = c .before .before .before .before .before .before .before .before .before .before .before .before .before .before .before .before .before .args in
-    can-climb (a .size) _ _ (a .blocks .now) (a .includes .now) (a .waiting .now) (a .named .now) (a .c) (a .x) (a .list .now) (c .before .before .before .before .before .before .before .before .before .before .before .before .before .before .before .before .before .pre .1) _ _ (c .before .before .before .before .before .before .before .before .store-block .ensures)
+    (front-first (a .size) _ _ (a .blocks .now) (a .includes .now) (a .waiting .now) (a .named .now) (a .c) (a .x) (a .list .now) (c .before .before .before .before .before .before .before .before .before .before .before .before .before .before .before .before .before .pre .1) _ _ (c .before .before .before .before .before .before .before .before .store-block .ensures) (a .order .now) (c .before .before .before .before .before .before .before .before .before .before .before .before .before .before .before .before .before .pre .0), can-climb (a .size) _ _ (a .blocks .now) (a .includes .now) (a .waiting .now) (a .named .now) (a .c) (a .x) (a .list .now) (c .before .before .before .before .before .before .before .before .before .before .before .before .before .before .before .before .before .pre .1) _ _ (c .before .before .before .before .before .before .before .before .store-block .ensures))
 
 same-length : tie.Need-same-length
 same-length c = search needs
@@ -40,8 +41,8 @@ enter-block-spec =
     tie.close
     (tie.spec
     store-block-requires
-    add-t17
-    add-t23
+    add-t16
+    add-t22
     cascade-requires
     same-length
     same-length-2

@@ -11,7 +11,7 @@ use Rattle.block_tables.proofs.indexed.all_in.Statement.{statement}
 use Rattle.block_tables.proofs.indexed.all_in.Tie as tie
 
 abbrev Inv-loop : tie.InvT-loop
-Inv-loop blocks order sorted n list m k₀ k = (k ≤ m) × (m ≡ length list / 6) × (allFound (lookedUp sorted blocks order n) n (refsIn (drop (k * 6) list)) ≡ allFound (lookedUp sorted blocks order n) n (refsIn list))
+Inv-loop blocks order sorted n list m k₀ k = (k ≤ m) × (m ≡ length list / 6) × (allFound (lookedUp blocks order sorted n) n (refsIn (drop (k * 6) list)) ≡ allFound (lookedUp blocks order sorted n) n (refsIn list))
 
 abbrev μ-loop : tie.MeasureT-loop
 μ-loop blocks order sorted n list m k₀ k = m - k
@@ -30,7 +30,7 @@ row-in-requires c κs = search needs
 
 returns : tie.Need-returns Inv-loop μ-loop
 returns c =
-    let row = lookedUp (c .before .before .before .before .before .before .before .before .args .sorted) (c .before .before .before .before .before .before .before .before .args .blocks .now) (c .before .before .before .before .before .before .before .before .args .order .now) (c .before .before .before .before .before .before .before .before .args .n) in
+    let row = lookedUp (c .before .before .before .before .before .before .before .before .args .blocks .now) (c .before .before .before .before .before .before .before .before .args .order .now) (c .before .before .before .before .before .before .before .before .args .sorted) (c .before .before .before .before .before .before .before .before .args .n) in
     let at = c .before .row-in .ensures ∙ ap row (c .before .before .reference-in .ensures) in
     found-stop row (c .before .before .before .before .before .before .before .before .args .n) (c .before .before .before .before .before .before .before .before .args .list .now) (c .before .before .before .before .loop .k) (omega (arith, c .before .before .before .before .loop .inv .1)) (omega (arith, at)) ∙ c .before .before .before .before .loop .inv .2
 
@@ -39,12 +39,12 @@ loop-less c = search needs
 
 loop-again : tie.Need-loop-again Inv-loop μ-loop
 loop-again c =
-    let row = lookedUp (c .before .before .before .before .before .before .before .before .args .sorted) (c .before .before .before .before .before .before .before .before .args .blocks .now) (c .before .before .before .before .before .before .before .before .args .order .now) (c .before .before .before .before .before .before .before .before .args .n) in
+    let row = lookedUp (c .before .before .before .before .before .before .before .before .args .blocks .now) (c .before .before .before .before .before .before .before .before .args .order .now) (c .before .before .before .before .before .before .before .before .args .sorted) (c .before .before .before .before .before .before .before .before .args .n) in
     let at = c .before .row-in .ensures ∙ ap row (c .before .before .reference-in .ensures) in
     (omega arith, c .before .before .before .before .loop .inv .1, found-next row (c .before .before .before .before .before .before .before .before .args .n) (c .before .before .before .before .before .before .before .before .args .list .now) (c .before .before .before .before .loop .k) (omega (arith, c .before .before .before .before .loop .inv .1)) (omega (arith, at)) ∙ c .before .before .before .before .loop .inv .2)
 
 returns-2 : tie.Need-returns-2 Inv-loop μ-loop
-returns-2 c = found-end (lookedUp (c .before .before .before .before .before .args .sorted) (c .before .before .before .before .before .args .blocks .now) (c .before .before .before .before .before .args .order .now) (c .before .before .before .before .before .args .n)) (c .before .before .before .before .before .args .n) (c .before .before .before .before .before .args .list .now) (c .before .loop .k) (omega (arith, c .before .loop .inv .1)) ∙ c .before .loop .inv .2
+returns-2 c = found-end (lookedUp (c .before .before .before .before .before .args .blocks .now) (c .before .before .before .before .before .args .order .now) (c .before .before .before .before .before .args .sorted) (c .before .before .before .before .before .args .n)) (c .before .before .before .before .before .args .n) (c .before .before .before .before .before .args .list .now) (c .before .loop .k) (omega (arith, c .before .loop .inv .1)) ∙ c .before .loop .inv .2
 
 pub all-in-spec : {M : Type 1} → statement M
 all-in-spec =

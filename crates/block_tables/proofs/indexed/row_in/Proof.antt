@@ -1,4 +1,4 @@
--- By whether the rows are in order.
+-- By whether halving finds a row.
 use borrow.Author.Needs.{needs}
 use mathlib.Core.Path.{_∙_}
 use Rattle.block_tables.proofs.Lookups.{by-halving, by-scan}
@@ -9,13 +9,18 @@ row-by-requires : tie.Need-row-by-requires
 row-by-requires c κs = search needs
 
 returns : tie.Need-returns
-returns c = c .row-by .ensures ∙ by-halving (c .before .before .before .before .args .sorted) (c .before .before .before .before .args .blocks .now) (c .before .before .before .before .args .order .now) (c .before .before .before .before .args .n) (c .before .before .before .before .args .x) (c .before .if1 .taken)
+returns c =
+    let a = c .before .before .before .before .args in
+    by-halving (a .blocks .now) (a .order .now) (a .sorted) (a .n) (a .x) _ (c .before .row-by .ensures) (c .if1 .taken)
 
-row-of-requires : tie.Need-row-of-requires
-row-of-requires c κs = search needs
+row-from-requires : tie.Need-row-from-requires
+row-from-requires c κs = search needs
 
 returns-2 : tie.Need-returns-2
-returns-2 c = c .row-of .ensures ∙ by-scan (c .before .before .before .before .args .sorted) (c .before .before .before .before .args .blocks .now) (c .before .before .before .before .args .order .now) (c .before .before .before .before .args .n) (c .before .before .before .before .args .x) (c .before .if1 .left)
+returns-2 c =
+    let a = c .before .before .before .before .before .args in
+    c .row-from .ensures ∙ by-scan (a .blocks .now) (a .order .now) (a .sorted) (a .n) (a .x) _ (c .before .before .row-by .ensures) (c .before .if1 .left)
 
 pub row-in-spec : {M : Type 1} → statement M
-row-in-spec = tie.close (tie.spec row-by-requires returns row-of-requires returns-2)
+row-in-spec =
+    tie.close (tie.spec row-by-requires returns row-from-requires returns-2)

@@ -1,9 +1,10 @@
--- Each test that fails makes the conjunction false; past four of them it is the last.
+-- Each test that fails makes the conjunction false; past three of them it is the fourth, with a yes behind it.
 use borrow.Author.Needs.{needs}
 use borrow.Author.Tests.{not-true, not-false}
 use mathlib.Core.Path.{refl, sym, _∙_}
 use native.Mathlib.Omega.{arith}
-use Rattle.block_tables.proofs.Testing.{used-bound, too-many, not-too-many, few-rows}
+use Rattle.block_store.proofs.Twins.{distinct-keys}
+use Rattle.block_tables.proofs.Testing.{used-bound, too-many, not-too-many, few-rows, and-yes}
 use Rattle.block_tables.specs.Sound.{soundTables}
 use Rattle.block_tables.specs.Words.{Tables, tablesOf}
 use Rattle.block_tables.proofs.sound.pending_is_sound.Statement.{statement}
@@ -53,21 +54,11 @@ zero-from-requires c κs = search needs
 returns-4 : tie.Need-returns-4
 unfolding soundTables
 returns-4 c =
-    let t : Tables = (tablesOf (c .before .before .before .before .before .before .before .before .before .before .before .before .before .before .args .blocks .now) (c .before .before .before .before .before .before .before .before .before .before .before .before .before .before .args .includes .now) (c .before .before .before .before .before .before .before .before .before .before .before .before .before .before .args .stored) (c .before .before .before .before .before .before .before .before .before .before .before .before .before .before .args .waiting .now) (c .before .before .before .before .before .before .before .before .before .before .before .before .before .before .args .named .now) (c .before .before .before .before .before .before .before .before .before .before .before .before .before .before .args .pending)) in
-    let ez = sym (c .before .before .before .before .before .before .before .before .sizes-are-sound .ensures) ∙ not-false _ (c .before .before .before .before .before .before .before .if1 .left) in
-    let er = sym (c .before .before .before .before .before .before .rows-are-sound .ensures) ∙ not-false _ (c .before .before .before .before .before .if2 .left) in
-    rw (c .before .before .before .before .before .before .before .before .before .before .before .before .before .before .pre .0, ez, er, not-too-many (c .before .before .before .before .before .before .before .before .before .before .before .before .before .before .args .size) t (c .before .before .before .before .before .before .before .before .before .before .before .before .before .before .pre .0) ez er (omega (arith, c .before .before .before .before .used-includes .ensures, c .before .before .before .used-includes2 .ensures, c .before .before .if3 .left)), sym (c .before .zero-from .ensures) ∙ not-true _ (c .if4 .taken)) refl
-
-are-distinct-requires : tie.Need-are-distinct-requires
-are-distinct-requires c κs = search needs
-
-returns-5 : tie.Need-returns-5
-unfolding soundTables
-returns-5 c =
-    let t : Tables = (tablesOf (c .before .before .before .before .before .before .before .before .before .before .before .before .before .before .before .args .blocks .now) (c .before .before .before .before .before .before .before .before .before .before .before .before .before .before .before .args .includes .now) (c .before .before .before .before .before .before .before .before .before .before .before .before .before .before .before .args .stored) (c .before .before .before .before .before .before .before .before .before .before .before .before .before .before .before .args .waiting .now) (c .before .before .before .before .before .before .before .before .before .before .before .before .before .before .before .args .named .now) (c .before .before .before .before .before .before .before .before .before .before .before .before .before .before .before .args .pending)) in
-    let ez = sym (c .before .before .before .before .before .before .before .before .before .sizes-are-sound .ensures) ∙ not-false _ (c .before .before .before .before .before .before .before .before .if1 .left) in
-    let er = sym (c .before .before .before .before .before .before .before .rows-are-sound .ensures) ∙ not-false _ (c .before .before .before .before .before .before .if2 .left) in
-    rw (c .before .before .before .before .before .before .before .before .before .before .before .before .before .before .before .pre .0, ez, er, not-too-many (c .before .before .before .before .before .before .before .before .before .before .before .before .before .before .before .args .size) t (c .before .before .before .before .before .before .before .before .before .before .before .before .before .before .before .pre .0) ez er (omega (arith, c .before .before .before .before .before .used-includes .ensures, c .before .before .before .before .used-includes2 .ensures, c .before .before .before .if3 .left)), sym (c .before .before .zero-from .ensures) ∙ not-false _ (c .before .if4 .left)) (c .are-distinct .ensures)
+    let a = c .before .before .before .before .before .before .before .before .before .before .before .before .before .args in
+    let t : Tables = tablesOf (a .blocks .now) (a .includes .now) (a .stored) (a .waiting .now) (a .named .now) (a .pending) in
+    let ez = sym (c .before .before .before .before .before .before .before .sizes-are-sound .ensures) ∙ not-false _ (c .before .before .before .before .before .before .if1 .left) in
+    let er = sym (c .before .before .before .before .before .rows-are-sound .ensures) ∙ not-false _ (c .before .before .before .before .if2 .left) in
+    rw (c .before .before .before .before .before .before .before .before .before .before .before .before .before .pre .0, ez, er, not-too-many (a .size) t (c .before .before .before .before .before .before .before .before .before .before .before .before .before .pre .0) ez er (omega (arith, c .before .before .before .used-includes .ensures, c .before .before .used-includes2 .ensures, c .before .if3 .left))) (c .zero-from .ensures ∙ and-yes _ (sym (distinct-keys (a .waiting .now) (a .pending)) ∙ c .before .before .before .before .before .before .before .before .before .before .before .before .before .pre .1 .1))
 
 pub pending-is-sound-spec : {M : Type 1} → statement M
 pending-is-sound-spec =
@@ -83,6 +74,4 @@ pending-is-sound-spec =
     returns-3
     mul-zero-from
     zero-from-requires
-    returns-4
-    are-distinct-requires
-    returns-5)
+    returns-4)

@@ -1,11 +1,10 @@
 -- Each way out is a case of the test.
 use borrow.Author.Needs.{needs}
-use mathlib.Core.Bool.{true}
 use mathlib.Core.List.{List}
 use mathlib.Core.Path.{sym, _∙_}
 use native.Mathlib.Omega.{arith}
 use Rattle.block_store.specs.Store.{storeOf, Store}
-use Rattle.block_tables.proofs.Lookups.{looked-up}
+use Rattle.block_tables.proofs.Lookups.{whole-front, looked-up}
 use Rattle.block_tables.proofs.Testing.{row-says, row-named, found-among, not-found-among}
 use Rattle.block_tables.specs.Sound.{soundNamed}
 use Rattle.block_tables.specs.Words.{refRows}
@@ -45,7 +44,7 @@ row-in-requires : tie.Need-row-in-requires
 row-in-requires c κs = search needs
 
 returns-5 : tie.Need-returns-5
-returns-5 c = sym (fails _ (λ e. clash (found-among (c .before .before .before .before .before .before .before .before .before .before .before .before .before .before .before .before .before .args .blocks .now) (c .before .before .before .before .before .before .before .before .before .before .before .before .before .before .before .before .before .args .stored) _ _ _ (c .before .before .reference-of .ensures) (c .before .row-in .ensures ∙ looked-up true (c .before .before .before .before .before .before .before .before .before .before .before .before .before .before .before .before .before .args .blocks .now) (c .before .before .before .before .before .before .before .before .before .before .before .before .before .before .before .before .before .args .order .now) (c .before .before .before .before .before .before .before .before .before .before .before .before .before .before .before .before .before .args .stored) _ (λ _. c .before .before .before .before .before .before .before .before .before .before .before .before .before .before .before .before .before .pre .0)) (c .if5 .taken)) (row-says _ _ _ _ e .new)))
+returns-5 c = sym (fails _ (λ e. clash (found-among (c .before .before .before .before .before .before .before .before .before .before .before .before .before .before .before .before .before .args .blocks .now) (c .before .before .before .before .before .before .before .before .before .before .before .before .before .before .before .before .before .args .stored) _ _ _ (c .before .before .reference-of .ensures) (c .before .row-in .ensures ∙ looked-up (c .before .before .before .before .before .before .before .before .before .before .before .before .before .before .before .before .before .args .blocks .now) (c .before .before .before .before .before .before .before .before .before .before .before .before .before .before .before .before .before .args .order .now) (c .before .before .before .before .before .before .before .before .before .before .before .before .before .before .before .before .before .args .stored) (c .before .before .before .before .before .before .before .before .before .before .before .before .before .before .before .before .before .args .stored) _ (whole-front _ _ _ (c .before .before .before .before .before .before .before .before .before .before .before .before .before .before .before .before .before .pre .0))) (c .if5 .taken)) (row-says _ _ _ _ e .new)))
 
 named-by-requires : tie.Need-named-by-requires
 named-by-requires c κs = search needs
@@ -59,7 +58,7 @@ returns-6 c =
     let refs : List BlockReference = refRows (c .before .before .before .before .before .before .before .before .before .before .before .before .before .before .before .before .before .before .before .args .blocks .now) 0 (c .before .before .before .before .before .before .before .before .before .before .before .before .before .before .before .before .before .before .before .args .stored) in
     c .named-are-sound .ensures
     ∙ (λ i. soundNamed (c .before .before .before .before .before .before .before .before .before .before .before .before .before .before .before .before .before .before .before .args .size) refs (c .before .before .before .before .before .before .before .before .before .before .before .round-at .ensures i) (c .before .named-by .ensures i))
-    ∙ row-named (c .before .before .before .before .before .before .before .before .before .before .before .before .before .before .before .before .before .before .before .args .size) refs p (c .before .before .before .before .before .before .before .before .before .before .before .before .before .before .before .before .before .before .before .args .row) (omega (arith, c .before .before .before .before .before .before .before .before .before .before .before .before .before .before .authority-at .ensures, c .before .before .before .before .before .before .before .before .before .before .before .before .if1 .left)) (omega (arith, c .before .before .before .before .before .before .before .before .before .before .before .round-at .ensures, c .before .before .before .before .before .before .before .before .before .if2 .left)) (omega (arith, c .before .before .before .before .before .before .before .before .count-at .ensures, c .before .before .before .before .before .before .before .if3 .left)) (sym (c .before .before .before .before .before .before .first-at .ensures) ∙ c .before .before .before .before .before .if4 .left ∙ c .before .before .before .before .before .before .before .before .before .before .before .before .before .before .before .before .before .before .before .pre .1) (not-found-among (c .before .before .before .before .before .before .before .before .before .before .before .before .before .before .before .before .before .before .before .args .blocks .now) (c .before .before .before .before .before .before .before .before .before .before .before .before .before .before .before .before .before .before .before .args .stored) _ _ _ (c .before .before .before .before .reference-of .ensures) (c .before .before .before .row-in .ensures ∙ looked-up true (c .before .before .before .before .before .before .before .before .before .before .before .before .before .before .before .before .before .before .before .args .blocks .now) (c .before .before .before .before .before .before .before .before .before .before .before .before .before .before .before .before .before .before .before .args .order .now) (c .before .before .before .before .before .before .before .before .before .before .before .before .before .before .before .before .before .before .before .args .stored) _ (λ _. c .before .before .before .before .before .before .before .before .before .before .before .before .before .before .before .before .before .before .before .pre .0)) (c .before .before .if5 .left))
+    ∙ row-named (c .before .before .before .before .before .before .before .before .before .before .before .before .before .before .before .before .before .before .before .args .size) refs p (c .before .before .before .before .before .before .before .before .before .before .before .before .before .before .before .before .before .before .before .args .row) (omega (arith, c .before .before .before .before .before .before .before .before .before .before .before .before .before .before .authority-at .ensures, c .before .before .before .before .before .before .before .before .before .before .before .before .if1 .left)) (omega (arith, c .before .before .before .before .before .before .before .before .before .before .before .round-at .ensures, c .before .before .before .before .before .before .before .before .before .if2 .left)) (omega (arith, c .before .before .before .before .before .before .before .before .count-at .ensures, c .before .before .before .before .before .before .before .if3 .left)) (sym (c .before .before .before .before .before .before .first-at .ensures) ∙ c .before .before .before .before .before .if4 .left ∙ c .before .before .before .before .before .before .before .before .before .before .before .before .before .before .before .before .before .before .before .pre .1) (not-found-among (c .before .before .before .before .before .before .before .before .before .before .before .before .before .before .before .before .before .before .before .args .blocks .now) (c .before .before .before .before .before .before .before .before .before .before .before .before .before .before .before .before .before .before .before .args .stored) _ _ _ (c .before .before .before .before .reference-of .ensures) (c .before .before .before .row-in .ensures ∙ looked-up (c .before .before .before .before .before .before .before .before .before .before .before .before .before .before .before .before .before .before .before .args .blocks .now) (c .before .before .before .before .before .before .before .before .before .before .before .before .before .before .before .before .before .before .before .args .order .now) (c .before .before .before .before .before .before .before .before .before .before .before .before .before .before .before .before .before .before .before .args .stored) (c .before .before .before .before .before .before .before .before .before .before .before .before .before .before .before .before .before .before .before .args .stored) _ (whole-front _ _ _ (c .before .before .before .before .before .before .before .before .before .before .before .before .before .before .before .before .before .before .before .pre .0))) (c .before .before .if5 .left))
 
 pub row-is-sound-spec : {M : Type 1} → statement M
 row-is-sound-spec =
