@@ -6,18 +6,23 @@ use lib.Dec.{ltb, leb, eqb}
 use lib.ListN.{length, getD, drop}
 use mathlib.Core.Bool.{Bool, true, false, cond, not, _&&_}
 use mathlib.Core.List.{List, [], _∷_, _++_}
-use mathlib.Core.Path.{_≡_, refl, sym, ap, ap₂, _∙_, fun-ext}
+use mathlib.Core.Path.{_≡_, refl, sym, ap, ap₂, _∙_}
 use native.Mathlib.Omega.{arith}
-use Rattle.base_committer.specs.Calls.{tested, electAnswer, isElected, directAnswer, indirectAnswer}
-use Rattle.base_committer.specs.Decide.{leaderBlocks, potentialCertificates, certifiedFrom, decideLeaderFromAnchor, anchorOf, fromAnchor, tryIndirectDecide, directReport, indirectReport}
-use Rattle.base_committer.specs.Only.{anyOf, popOr, reportedDecision}
+use Rattle.base_committer.proofs.Rows.{direct-same, indirect-same, indexed-rows}
+use Rattle.base_committer.specs.Calls.{Admitted, tested, electAnswer, isElected, directAnswer, indirectAnswer, answerBy}
+use Rattle.base_committer.specs.Decide.{leaderBlocks, potentialCertificates, certifiedBy, certifiedFrom, decideLeaderFromAnchor, anchorOf, fromAnchor, tryIndirectDecide, directReport, indirectReport}
+use Rattle.base_committer.specs.Only.{popOr, reportedDecision}
 use Rattle.base_committer.specs.Options.{soundOptions}
 use Rattle.base_committer.specs.Waves.{anchorRound, waveNumber, decisionRound, reportedElected, electedReport}
+use Rattle.base_committer.specs.declared.calls.Rule.{Rule}
+use Rattle.base_committer.specs.declared.calls.Rule.the-variants.{Direct, Indirect}
 use Rattle.base_committer.specs.declared.indirect.Anchor.{Anchor}
 use Rattle.base_committer.specs.declared.indirect.Anchor.the-variants.{At, Nothing}
 use Rattle.base_committer.specs.declared.options.BaseCommitterOptions.{BaseCommitterOptions}
 use Rattle.base_committer.specs.declared.waves.Elected.{Elected}
-use Rattle.block_store.specs.Sound.{soundStore}
+use Rattle.block_store.proofs.Soundness.{sound}
+use Rattle.block_store.proofs.Twins.{distinct-keys, sound-split}
+use Rattle.block_store.specs.Sound.{soundButTwins, soundStore}
 use Rattle.block_store.specs.Store.{Store}
 use Rattle.committee.proofs.Committees.{judged-sound, judged-unsound}
 use Rattle.committee.specs.Committees.{soundOf, stakeWords}
@@ -28,12 +33,17 @@ use Rattle.consensus.specs.Sound.{SoundStatuses, soundStatuses, statusField}
 use Rattle.consensus.specs.Statuses.{at, statusWords, commitKind, skipKind, statusOf, statusAt, statusesOf}
 use Rattle.consensus.specs.declared.status.LeaderStatus.{LeaderStatus}
 use Rattle.consensus.specs.declared.status.LeaderStatus.the-variants.{Commit, Skip, Undecided}
+use Rattle.index.proofs.Searching.{indexed, index-says}
+use Rattle.index.specs.Keys.{referenceKey}
+use Rattle.index.specs.Places.{hasRoom, orderedRows, frontAfter}
+use Rattle.index.specs.Rounds.{roundIs, rowsOfRound}
+use Rattle.index.specs.Search.{Indexed}
 use Rattle.linked.proofs.Laws.{linked-in}
 use Rattle.linked.specs.Linked.{linked, linkedIn}
-use Rattle.support.specs.Quorums.{keep, inRound, isCertificate}
-use Rattle.types.proofs.Tests.{both, both-left, both-right, by-test}
+use Rattle.support.specs.Quorums.{keep, roundRows}
+use Rattle.types.proofs.Tests.{both, both-left, both-right, by-test, fails}
 use Rattle.types.specs.Below.{rowsBelow}
-use Rattle.types.specs.Limits.{roundLimit}
+use Rattle.types.specs.Limits.{roundLimit, maxBlocks}
 use Rattle.types.specs.Reports.{Report, Refuses}
 
 -- a test as the code makes it: t is its outcome, and the code asks for `not t`
@@ -81,35 +91,61 @@ module _ (c : Committee) (o : BaseCommitterOptions) (round : ℕ) where
       elect-is h x y e f =
           sym (ap reportedElected f) ∙ e ∙ tested-both c o (electedReport o (c .size) round) sc so ∙ rw (lt-ltb round roundLimit h) refl
 
--- ---- try_direct_decide
+-- ---- the tests that both decisions have in common
 
-module _ (c : Committee) (o : BaseCommitterOptions) (s : Store) (leader round : ℕ) where
-  pub direct-committee : soundOf c ≡ false → Refuses 1 ≡ directAnswer c o s leader round
+module _ (c : Committee) (o : BaseCommitterOptions) (s : Store) (leader round : ℕ) (words : List ℕ) (room : ℕ) where
+  pub no-committee : (rule : Rule) → soundOf c ≡ false → Refuses 1 ≡ answerBy rule c o s leader round words room
+  unfolding directAnswer indirectAnswer
+  no-committee Direct e = tested-committee c o _ e
+  no-committee Indirect e = tested-committee c o _ e
+
+  pub no-options : (rule : Rule) → soundOf c ≡ true → soundOptions o ≡ false → Refuses 2 ≡ answerBy rule c o s leader round words room
+  unfolding directAnswer indirectAnswer
+  no-options Direct sc e = tested-options c o _ sc e
+  no-options Indirect sc e = tested-options c o _ sc e
+
+  pub no-table : (rule : Rule) → Admitted c o → soundStore (c .size) s ≡ false → Refuses 3 ≡ answerBy rule c o s leader round words room
+  unfolding directAnswer indirectAnswer
+  no-table Direct ad e = tested-both c o (Refuses 3) (ad .0) (ad .1) ∙ rw e refl
+  no-table Indirect ad e = tested-both c o (Refuses 3) (ad .0) (ad .1) ∙ rw e refl
+
+  -- more rows than a table has
+  pub no-rows : (rule : Rule) → Admitted c o → maxBlocks < s .count → Refuses 3 ≡ answerBy rule c o s leader round words room
+  no-rows rule ad h =
+      no-table rule ad (fails (soundStore (c .size) s) (λ e. let b = sound (c .size) s e in omega (arith, b .rows-used, b .few-rows)))
+
+  pub by-rule : (rule rule′ : Rule) (r : Report) → rule ≡ rule′ → r ≡ answerBy rule′ c o s leader round words room → r ≡ answerBy rule c o s leader round words room
+  by-rule rule rule′ r e er = er ∙ ap (λ (x : Rule). answerBy x c o s leader round words room) (sym e)
+
+-- the test that sorts the rows: where there is room it is the test of the tables, and leaves the rows in order
+module _ (size : ℕ) (s : Store) (rows work : ℕ) (t : Bool) (few : s .count ≤ maxBlocks) (fits : s .count ≤ rows) (wide : s .count ≤ work)
+    (et : t ≡ (hasRoom (s .count) rows work && soundStore size s)) where
+  pub tables-are : t ≡ soundStore size s
+  tables-are = index-says (s .count) rows work (soundStore size s) t few fits wide et .1
+
+  pub in-order : (area order : List ℕ) → t ≡ true
+      → order ≡ frontAfter (hasRoom (s .count) rows work) (s .count) (orderedRows (referenceKey (s .blocks)) (s .count)) area
+      → Indexed (referenceKey (s .blocks)) (s .count) order
+  in-order area order e eo =
+      indexed (referenceKey (s .blocks)) (s .count) (hasRoom (s .count) rows work) area order
+      (index-says (s .count) rows work (soundStore size s) t few fits wide et .0)
+      (distinct-keys (s .blocks) (s .count) ∙ both-right (soundButTwins size s) _ (sym (sound-split size s) ∙ sym tables-are ∙ e)) eo
+
+-- ---- the direct decision, behind those tests
+
+module _ (c : Committee) (o : BaseCommitterOptions) (s : Store) (leader round : ℕ) (ad : Admitted c o) (ss : soundStore (c .size) s ≡ true) where
+  pub direct-position : isElected o (c .size) leader round ≡ false → Refuses 4 ≡ directAnswer c o s leader round
   unfolding directAnswer
-  direct-committee e = tested-committee c o _ e
+  direct-position e = tested-both c o (Refuses 4) (ad .0) (ad .1) ∙ rw (ss, e) refl
 
-  module _ (sc : soundOf c ≡ true) where
-    pub direct-options : soundOptions o ≡ false → Refuses 2 ≡ directAnswer c o s leader round
-    unfolding directAnswer
-    direct-options e = tested-options c o _ sc e
-
-    module _ (so : soundOptions o ≡ true) where
-      pub direct-table : soundStore (c .size) s ≡ false → Refuses 3 ≡ directAnswer c o s leader round
-      unfolding directAnswer
-      direct-table e = tested-both c o (Refuses 3) sc so ∙ rw e refl
-
-      module _ (ss : soundStore (c .size) s ≡ true) where
-        pub direct-position : isElected o (c .size) leader round ≡ false → Refuses 4 ≡ directAnswer c o s leader round
-        unfolding directAnswer
-        direct-position e = tested-both c o (Refuses 4) sc so ∙ rw (ss, e) refl
-
-        -- on sound tables and an elected position the call's answer is the part's
-        pub direct-part : isElected o (c .size) leader round ≡ true → (r : Report) (stakes : List ℕ) → stakes ≡ stakeWords c
-            → r ≡ directReport s stakes (c .quorum .0) o leader round → r ≡ directAnswer c o s leader round
-        unfolding directAnswer
-        direct-part e r stakes es er =
-            er ∙ ap (λ (w : List ℕ). directReport s w (c .quorum .0) o leader round) es
-            ∙ tested-both c o (directReport s (stakeWords c) (c .quorum .0) o leader round) sc so ∙ rw (ss, e) refl
+  -- on sound tables and an elected position the call's answer is the part's
+  pub direct-part : isElected o (c .size) leader round ≡ true → (order : List ℕ) → Indexed (referenceKey (s .blocks)) (s .count) order → (r : Report) (stakes : List ℕ)
+      → stakes ≡ stakeWords c → r ≡ directReport s (rowsOfRound (s .blocks) order (s .count)) stakes (c .quorum .0) o leader round → r ≡ directAnswer c o s leader round
+  unfolding directAnswer
+  direct-part e order ix r stakes es er =
+      er ∙ ap reportedDecision (direct-same s (rowsOfRound (s .blocks) order (s .count)) (roundRows s) (indexed-rows s order ix) stakes (c .quorum .0) o leader round)
+      ∙ ap (λ (w : List ℕ). directReport s (roundRows s) w (c .quorum .0) o leader round) es
+      ∙ tested-both c o (directReport s (roundRows s) (stakeWords c) (c .quorum .0) o leader round) (ad .0) (ad .1) ∙ rw (ss, e) refl
 
 -- ---- the anchor is a stored row
 
@@ -174,81 +210,80 @@ module _ (size : ℕ) (bs : List ℕ) (n : ℕ) (rows : List ℕ) (sound : Sound
 
 -- ---- where there is room, `linkedIn` is `linked`
 
-rows-ext : (p q : ℕ → Bool) (n : ℕ) → ((i : ℕ) → i < n → p i ≡ q i) → rowsBelow p n ≡ rowsBelow q n
+keep-append : (p : ℕ → Bool) (xs ys : List ℕ) → keep p (xs ++ ys) ≡ keep p xs ++ keep p ys
+keep-append p [] ys = refl
+keep-append p (x ∷ xs) ys = go (p x) (keep-append p xs ys)
+  where
+    go : (t : Bool) → keep p (xs ++ ys) ≡ keep p xs ++ keep p ys
+        → cond t (x ∷ keep p (xs ++ ys)) (keep p (xs ++ ys)) ≡ cond t (x ∷ keep p xs) (keep p xs) ++ keep p ys
+    go true ih = ap (λ (l : List ℕ). x ∷ l) ih
+    go false ih = ih
+
+keep-ext : (p q f : ℕ → Bool) (n : ℕ) → ((i : ℕ) → i < n → p i ≡ q i) → keep p (rowsBelow f n) ≡ keep q (rowsBelow f n)
 unfolding rowsBelow
-rows-ext p q zero h = refl
-rows-ext p q (suc n) h =
-    ap₂ (λ (l : List ℕ) (t : Bool). l ++ cond t (n ∷ []) []) (rows-ext p q n (λ i l. h i (omega arith))) (h n (omega arith))
+keep-ext p q f zero h = refl
+keep-ext p q f (suc n) h =
+    keep-append p (rowsBelow f n) (cond (f n) (n ∷ []) [])
+    ∙ ap₂ (λ (l m : List ℕ). l ++ m) (keep-ext p q f n (λ i l. h i (omega arith))) (last (f n))
+    ∙ sym (keep-append q (rowsBelow f n) (cond (f n) (n ∷ []) []))
+  where
+    last : (t : Bool) → keep p (cond t (n ∷ []) []) ≡ keep q (cond t (n ∷ []) [])
+    last true = ap (λ (t : Bool). cond t (n ∷ []) []) (h n (omega arith))
+    last false = refl
 
 module _ (s : Store) (room : ℕ) (wide : s .count ≤ room) (stakes : List ℕ) (floor : ℕ) (o : BaseCommitterOptions) (leader round : ℕ) where
-  round-same : (decision anchor k : ℕ) → anchor < s .count → k < s .count
-      → inRound (s .blocks) decision (linkedIn s room anchor) k ≡ inRound (s .blocks) decision (linked s anchor) k
-  unfolding inRound
-  round-same decision anchor k la lk = rw (linked-in s room anchor k la lk wide) refl
+  certificates-same : (decision anchor : ℕ) → anchor < s .count
+      → potentialCertificates (roundRows s) (linkedIn s room) decision anchor ≡ potentialCertificates (roundRows s) (linked s) decision anchor
+  unfolding potentialCertificates roundRows
+  certificates-same decision anchor la =
+      keep-ext (linkedIn s room anchor) (linked s anchor) (roundIs (s .blocks) decision) (s .count) (λ k lk. linked-in s room anchor k la lk wide)
 
-  certified-same : (decision anchor block : ℕ) → anchor < s .count
-      → certifiedFrom s (linkedIn s room) stakes floor decision anchor block ≡ certifiedFrom s (linked s) stakes floor decision anchor block
-  unfolding certifiedFrom potentialCertificates
-  certified-same decision anchor block la =
-      ap (anyOf (isCertificate s stakes floor block))
-      (rows-ext (inRound (s .blocks) decision (linkedIn s room anchor)) (inRound (s .blocks) decision (linked s anchor)) (s .count)
-      (λ k lk. round-same decision anchor k la lk))
+  certified-same : (decision anchor : ℕ) → anchor < s .count
+      → certifiedFrom s (roundRows s) (linkedIn s room) stakes floor decision anchor ≡ certifiedFrom s (roundRows s) (linked s) stakes floor decision anchor
+  unfolding certifiedFrom
+  certified-same decision anchor la = ap (certifiedBy s stakes floor) (certificates-same decision anchor la)
 
   anchor-same : (a : Anchor) → ((anchor : ℕ) → a ≡ At anchor → anchor < s .count)
-      → fromAnchor s (linkedIn s room) stakes floor o leader round a ≡ fromAnchor s (linked s) stakes floor o leader round a
+      → fromAnchor s (roundRows s) (linkedIn s room) stakes floor o leader round a ≡ fromAnchor s (roundRows s) (linked s) stakes floor o leader round a
   unfolding decideLeaderFromAnchor
   anchor-same Nothing h = refl
   anchor-same (At anchor) h =
-      ap (λ (f : ℕ → Bool). popOr (Skip (at leader round)) (at leader round) (keep f (leaderBlocks (s .blocks) (s .count) leader round)))
-      (fun-ext (λ (block : ℕ). certified-same (decisionRound o (waveNumber o round)) anchor block (h anchor refl)))
+      ap (λ (f : ℕ → Bool). popOr (Skip (at leader round)) (at leader round) (keep f (leaderBlocks (s .blocks) leader (roundRows s round))))
+      (certified-same (decisionRound o (waveNumber o round)) anchor (h anchor refl))
 
-  pub linked-same : (size : ℕ) (rows : List ℕ) → soundStatuses size (s .blocks) (s .count) rows ≡ true
-      → indirectReport s (linkedIn s room) stakes floor o leader round (statusesOf rows) ≡ indirectReport s (linked s) stakes floor o leader round (statusesOf rows)
+  pub linked-same : (size : ℕ) (words : List ℕ) → soundStatuses size (s .blocks) (s .count) words ≡ true
+      → indirectReport s (roundRows s) (linkedIn s room) stakes floor o leader round (statusesOf words) ≡ indirectReport s (roundRows s) (linked s) stakes floor o leader round (statusesOf words)
   unfolding tryIndirectDecide
-  linked-same size rows e =
+  linked-same size words e =
       ap reportedDecision
-      (anchor-same (anchorOf (anchorRound o round) (statusesOf rows))
-      (λ anchor. anchored (anchorRound o round) (s .count) (statusesOf rows)
-      (names-all size (s .blocks) (s .count) rows (sound-statuses size (s .blocks) (s .count) rows e)) anchor))
+      (anchor-same (anchorOf (anchorRound o round) (statusesOf words))
+      (λ anchor. anchored (anchorRound o round) (s .count) (statusesOf words)
+      (names-all size (s .blocks) (s .count) words (sound-statuses size (s .blocks) (s .count) words e)) anchor))
 
--- ---- try_indirect_decide
+-- ---- the indirect decision, behind the common tests
 
-module _ (c : Committee) (o : BaseCommitterOptions) (s : Store) (leader round : ℕ) (rows : List ℕ) (room : ℕ) where
-  pub indirect-committee : soundOf c ≡ false → Refuses 1 ≡ indirectAnswer c o s leader round rows room
+module _ (c : Committee) (o : BaseCommitterOptions) (s : Store) (leader round : ℕ) (words : List ℕ) (room : ℕ) (ad : Admitted c o) (ss : soundStore (c .size) s ≡ true) where
+  pub indirect-statuses : soundStatuses (c .size) (s .blocks) (s .count) words ≡ false → Refuses 3 ≡ indirectAnswer c o s leader round words room
   unfolding indirectAnswer
-  indirect-committee e = tested-committee c o _ e
+  indirect-statuses e = tested-both c o (Refuses 3) (ad .0) (ad .1) ∙ rw (ss, e) refl
 
-  module _ (sc : soundOf c ≡ true) where
-    pub indirect-options : soundOptions o ≡ false → Refuses 2 ≡ indirectAnswer c o s leader round rows room
+  module _ (sr : soundStatuses (c .size) (s .blocks) (s .count) words ≡ true) where
+    pub indirect-position : isElected o (c .size) leader round ≡ false → Refuses 4 ≡ indirectAnswer c o s leader round words room
     unfolding indirectAnswer
-    indirect-options e = tested-options c o _ sc e
+    indirect-position e = tested-both c o (Refuses 4) (ad .0) (ad .1) ∙ rw (ss, sr, e) refl
 
-    module _ (so : soundOptions o ≡ true) where
-      pub indirect-table : soundStore (c .size) s ≡ false → Refuses 3 ≡ indirectAnswer c o s leader round rows room
+    module _ (se : isElected o (c .size) leader round ≡ true) where
+      pub indirect-short : room < s .count → Refuses 8 ≡ indirectAnswer c o s leader round words room
       unfolding indirectAnswer
-      indirect-table e = tested-both c o (Refuses 3) sc so ∙ rw e refl
+      indirect-short h = tested-both c o (Refuses 8) (ad .0) (ad .1) ∙ rw (ss, sr, se, lt-leb (s .count) room h) refl
 
-      module _ (ss : soundStore (c .size) s ≡ true) where
-        pub indirect-statuses : soundStatuses (c .size) (s .blocks) (s .count) rows ≡ false → Refuses 3 ≡ indirectAnswer c o s leader round rows room
-        unfolding indirectAnswer
-        indirect-statuses e = tested-both c o (Refuses 3) sc so ∙ rw (ss, e) refl
-
-        module _ (sr : soundStatuses (c .size) (s .blocks) (s .count) rows ≡ true) where
-          pub indirect-position : isElected o (c .size) leader round ≡ false → Refuses 4 ≡ indirectAnswer c o s leader round rows room
-          unfolding indirectAnswer
-          indirect-position e = tested-both c o (Refuses 4) sc so ∙ rw (ss, sr, e) refl
-
-          module _ (se : isElected o (c .size) leader round ≡ true) where
-            pub indirect-short : room < s .count → Refuses 8 ≡ indirectAnswer c o s leader round rows room
-            unfolding indirectAnswer
-            indirect-short h = tested-both c o (Refuses 8) sc so ∙ rw (ss, sr, se, lt-leb (s .count) room h) refl
-
-            -- on sound tables, an elected position and with room the call's answer is the part's
-            pub indirect-part : s .count ≤ room → (r : Report) (stakes : List ℕ) (room′ : ℕ) → stakes ≡ stakeWords c → room′ ≡ room
-                → r ≡ indirectReport s (linkedIn s room′) stakes (c .quorum .0) o leader round (statusesOf rows) → r ≡ indirectAnswer c o s leader round rows room
-            unfolding indirectAnswer
-            indirect-part h r stakes room′ es em er =
-                er ∙ ap₂ (λ (n : ℕ) (w : List ℕ). indirectReport s (linkedIn s n) w (c .quorum .0) o leader round (statusesOf rows)) em es
-                ∙ linked-same s room h (stakeWords c) (c .quorum .0) o leader round (c .size) rows sr
-                ∙ tested-both c o (indirectReport s (linked s) (stakeWords c) (c .quorum .0) o leader round (statusesOf rows)) sc so
-                ∙ rw (ss, sr, se, le-leb (s .count) room h) refl
+      -- on sound tables, an elected position and with room the call's answer is the part's
+      pub indirect-part : s .count ≤ room → (order : List ℕ) → Indexed (referenceKey (s .blocks)) (s .count) order → (r : Report) (stakes : List ℕ) → stakes ≡ stakeWords c
+          → r ≡ indirectReport s (rowsOfRound (s .blocks) order (s .count)) (linkedIn s room) stakes (c .quorum .0) o leader round (statusesOf words) → r ≡ indirectAnswer c o s leader round words room
+      unfolding indirectAnswer
+      indirect-part h order ix r stakes es er =
+          er ∙ ap reportedDecision (indirect-same s (rowsOfRound (s .blocks) order (s .count)) (roundRows s) (indexed-rows s order ix) (linkedIn s room) stakes (c .quorum .0) o leader round (statusesOf words))
+          ∙ ap (λ (w : List ℕ). indirectReport s (roundRows s) (linkedIn s room) w (c .quorum .0) o leader round (statusesOf words)) es
+          ∙ linked-same s room h (stakeWords c) (c .quorum .0) o leader round (c .size) words sr
+          ∙ tested-both c o (indirectReport s (roundRows s) (linked s) (stakeWords c) (c .quorum .0) o leader round (statusesOf words)) (ad .0) (ad .1)
+          ∙ rw (ss, sr, se, le-leb (s .count) room h) refl

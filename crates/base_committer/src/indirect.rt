@@ -1,24 +1,25 @@
-// The indirect rule: base_committer.rs, the search for the anchor and decide_leader_from_anchor.
+// The indirect rule: base_committer.rs, the search for the anchor and decide_leader_from_anchor. `order` has the stored rows in order, and the
+// blocks that the anchor is linked to are marked in a work area.
 use crate::only::Only;
 use crate::only::with_row;
-use block_store::parts::is_at;
+use block_store::parts::authority_at;
 use block_store::parts::round_at;
 use consensus::LeaderStatus;
 use consensus::parts::STATUS_WORDS;
 use consensus::parts::status_at;
-use linked::parts::is_linked;
+use index::lookup::first_of_round;
+use index::lookup::row_at;
 use support::parts::is_certificate;
 use types::AuthorityIndex;
 use types::RoundNumber;
 use types::Stake;
-use types::words::clear_bytes;
+use types::words::byte;
 ghost use mathlib.Core.Path.{_≡_};
-ghost use lib.ListN.{length, replicate};
+ghost use Rattle.index.specs.Rounds.{rowsOfRound};
 ghost use Rattle.block_store.specs.Store.{storeOf};
 ghost use Rattle.consensus.specs.Statuses.{statusesOf};
-ghost use Rattle.linked.specs.Linked.{linkedIn};
 ghost use Rattle.base_committer.specs.Only.{keepOnly};
-ghost use Rattle.base_committer.specs.Decide.{leaderBlocks, certifiedFrom, anchorOf};
+ghost use Rattle.base_committer.specs.Decide.{leaderBlocks, certifiedBy, markedRows, anchorOf};
 
 // The block in whose past a leader is decided.
 pub enum Anchor {
@@ -53,71 +54,70 @@ pub(crate) fn find_anchor(statuses: &[u64], least: RoundNumber) -> Anchor
     Anchor::Nothing
 }
 
-// Whether a block of the decision round that the anchor is linked to certifies the leader block.
-fn certified_from(
+// Whether a marked block of the decision round certifies the leader block.
+fn certified_by(
     blocks: &[u64],
     includes: &[u64],
     stored: usize,
+    order: &[u16],
     stakes: &[u64],
     floor: Stake,
     decision: RoundNumber,
-    anchor: usize,
     block: usize,
-    work: &mut [u8],
+    marks: &[u8],
 ) -> bool
-    ensures { λ r. ⌜ r ≡ certifiedFrom (storeOf (now (blocks .entry)) (now (includes .entry)) stored) (linkedIn (storeOf (now (blocks .entry)) (now (includes .entry)) stored) (length (now (work .entry)))) (now (stakes .entry)) (floor .0) (decision .0) anchor block ⌝ }
-    ensures zeroed { λ _. ⌜ now (work .exit) ≡ replicate (length (now (work .entry))) 0 ⌝ }
+    ensures { λ r. ⌜ r ≡ certifiedBy (storeOf (now (blocks .entry)) (now (includes .entry)) stored) (now (stakes .entry)) (floor .0) (markedRows (now (marks .entry)) (rowsOfRound (now (blocks .entry)) (now (order .entry)) stored (decision .0))) block ⌝ }
 {
-    clear_bytes(work);
-    let mut k = 0;
+    let mut k = first_of_round(blocks, order, stored, decision);
     while k < stored {
-        let row = k;
+        let row = row_at(order, k);
         k += 1;
-        let found = round_at(blocks, row);
-        if found.0 == decision.0 {
-            if is_linked(blocks, includes, stored, anchor, row, work) {
-                if is_certificate(blocks, includes, stored, stakes, floor, row, block) {
-                    return true;
-                }
+        if round_at(blocks, row).0 != decision.0 {
+            return false;
+        }
+        if byte(marks, row) == 1 {
+            if is_certificate(blocks, includes, stored, stakes, floor, row, block) {
+                return true;
             }
         }
     }
     false
 }
 
-// The leader blocks that are certified in the anchor's past.
+// The leader blocks that a marked block of the decision round certifies.
 pub(crate) fn only_certified(
     blocks: &[u64],
     includes: &[u64],
     stored: usize,
+    order: &[u16],
     stakes: &[u64],
     floor: Stake,
     decision: RoundNumber,
-    anchor: usize,
     leader: AuthorityIndex,
     round: RoundNumber,
-    work: &mut [u8],
+    marks: &[u8],
 ) -> Only
-    ensures { λ r. ⌜ r ≡ keepOnly (certifiedFrom (storeOf (now (blocks .entry)) (now (includes .entry)) stored) (linkedIn (storeOf (now (blocks .entry)) (now (includes .entry)) stored) (length (now (work .entry)))) (now (stakes .entry)) (floor .0) (decision .0) anchor) (leaderBlocks (now (blocks .entry)) stored (leader .0) (round .0)) ⌝ }
-    ensures zeroed { λ _. ⌜ now (work .exit) ≡ replicate (length (now (work .entry))) 0 ⌝ }
+    ensures { λ r. ⌜ r ≡ keepOnly (certifiedBy (storeOf (now (blocks .entry)) (now (includes .entry)) stored) (now (stakes .entry)) (floor .0) (markedRows (now (marks .entry)) (rowsOfRound (now (blocks .entry)) (now (order .entry)) stored (decision .0)))) (leaderBlocks (now (blocks .entry)) (leader .0) (rowsOfRound (now (blocks .entry)) (now (order .entry)) stored (round .0))) ⌝ }
 {
-    clear_bytes(work);
     let mut found = Only::Nobody;
-    let mut k = 0;
+    let mut k = first_of_round(blocks, order, stored, round);
     while k < stored {
-        let row = k;
+        let row = row_at(order, k);
         k += 1;
-        if is_at(blocks, row, leader, round) {
-            if certified_from(
+        if round_at(blocks, row).0 != round.0 {
+            return found;
+        }
+        if authority_at(blocks, row).0 == leader.0 {
+            if certified_by(
                 blocks,
                 includes,
                 stored,
+                order,
                 stakes,
                 floor,
                 decision,
-                anchor,
                 row,
-                work,
+                marks,
             ) {
                 found = with_row(found, row);
             }

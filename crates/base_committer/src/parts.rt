@@ -1,5 +1,5 @@
 // The election and the two decisions without the tests of the calls, for a committer that has tested its tables once. Each function is a
-// part: it tests nothing, stakes are lent words and the floor is the quorum's.
+// part: it tests nothing, stakes are lent words, the floor is the quorum's, and `order` has the stored rows in order.
 use crate::BaseCommitterOptions;
 use crate::Decision;
 use crate::Elected;
@@ -15,6 +15,7 @@ use crate::waves::leader_round;
 use crate::waves::plus;
 use crate::waves::wave_number;
 use consensus::LeaderStatus;
+use linked::parts::mark_linked;
 use types::AuthorRound;
 use types::AuthorityIndex;
 use types::RoundNumber;
@@ -22,6 +23,7 @@ use types::Stake;
 use types::words::clear_bytes;
 ghost use mathlib.Core.Path.{_≡_};
 ghost use lib.ListN.{length, replicate};
+ghost use Rattle.index.specs.Rounds.{rowsOfRound};
 ghost use Rattle.block_store.specs.Store.{storeOf};
 ghost use Rattle.consensus.specs.Statuses.{statusesOf};
 ghost use Rattle.linked.specs.Linked.{linkedIn};
@@ -50,13 +52,14 @@ pub fn direct_decision(
     blocks: &[u64],
     includes: &[u64],
     stored: usize,
+    order: &[u16],
     stakes: &[u64],
     floor: Stake,
     options: BaseCommitterOptions,
     leader: AuthorityIndex,
     round: RoundNumber,
 ) -> Decision
-    ensures { λ r. ⌜ reportedDecision r ≡ directReport (storeOf (now (blocks .entry)) (now (includes .entry)) stored) (now (stakes .entry)) (floor .0) options (leader .0) (round .0) ⌝ }
+    ensures { λ r. ⌜ reportedDecision r ≡ directReport (storeOf (now (blocks .entry)) (now (includes .entry)) stored) (rowsOfRound (now (blocks .entry)) (now (order .entry)) stored) (now (stakes .entry)) (floor .0) options (leader .0) (round .0) ⌝ }
 {
     let position = AuthorRound {
         authority: leader,
@@ -66,6 +69,7 @@ pub fn direct_decision(
         blocks,
         includes,
         stored,
+        order,
         stakes,
         floor,
         options,
@@ -79,6 +83,7 @@ pub fn direct_decision(
         blocks,
         includes,
         stored,
+        order,
         stakes,
         floor,
         decision,
@@ -93,6 +98,7 @@ pub fn indirect_decision(
     blocks: &[u64],
     includes: &[u64],
     stored: usize,
+    order: &[u16],
     stakes: &[u64],
     floor: Stake,
     options: BaseCommitterOptions,
@@ -101,30 +107,32 @@ pub fn indirect_decision(
     statuses: &[u64],
     work: &mut [u8],
 ) -> Decision
-    ensures { λ r. ⌜ reportedDecision r ≡ indirectReport (storeOf (now (blocks .entry)) (now (includes .entry)) stored) (linkedIn (storeOf (now (blocks .entry)) (now (includes .entry)) stored) (length (now (work .entry)))) (now (stakes .entry)) (floor .0) options (leader .0) (round .0) (statusesOf (now (statuses .entry))) ⌝ }
+    ensures { λ r. ⌜ reportedDecision r ≡ indirectReport (storeOf (now (blocks .entry)) (now (includes .entry)) stored) (rowsOfRound (now (blocks .entry)) (now (order .entry)) stored) (linkedIn (storeOf (now (blocks .entry)) (now (includes .entry)) stored) (length (now (work .entry)))) (now (stakes .entry)) (floor .0) options (leader .0) (round .0) (statusesOf (now (statuses .entry))) ⌝ }
     ensures zeroed { λ _. ⌜ now (work .exit) ≡ replicate (length (now (work .entry))) 0 ⌝ }
 {
-    clear_bytes(work);
     let position = AuthorRound {
         authority: leader,
         round: round,
     };
     let found = find_anchor(statuses, anchor_round(options, round));
     let Anchor::At(anchor) = found else {
+        clear_bytes(work);
         return Decision::Decided(LeaderStatus::Undecided(position));
     };
     let decision = decision_round(options, wave_number(options, round));
+    mark_linked(blocks, includes, stored, anchor, decision, work);
     let certified = only_certified(
         blocks,
         includes,
         stored,
+        order,
         stakes,
         floor,
         decision,
-        anchor,
         leader,
         round,
-        work,
+        &work[..],
     );
+    clear_bytes(work);
     commit_or(certified, position, LeaderStatus::Skip(position))
 }

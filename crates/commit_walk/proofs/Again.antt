@@ -6,7 +6,7 @@ use mathlib.Core.List.{List, [], _∷_, _++_, append-nil, append-assoc}
 use mathlib.Core.Path.{_≡_, refl, sym, ap, _∙_}
 use Rattle.commit_walk.proofs.Growing.{Away, Clear, clear-none, clear-more, not-of, away-unknown, growing}
 use Rattle.commit_walk.proofs.Memory.{of-round, of-author, of-is, orElse, recall-append, recall-kept, recall-past, recalled-of, fresh-unknown}
-use Rattle.commit_walk.specs.Memory.{isOf, recall, isUnknown, isFresh, freshOf, remembered}
+use Rattle.commit_walk.specs.Memory.{isOf, recall, isUnknown, isNew, isFresh, freshOf, remembered}
 use Rattle.commit_walk.specs.Walk.{Seat, Ruled, is, twice, reached, walk, Examined, seen, two, foundOr, pushed, examine, recorded, Distinct, Apart, positionsOf, seatsDown}
 use Rattle.commit_walk.specs.declared.parts.Recalled.{Recalled}
 use Rattle.commit_walk.specs.declared.parts.Recalled.the-variants.{Known, Unknown}
@@ -18,7 +18,7 @@ use Rattle.types.specs.declared.reference.AuthorRound.{AuthorRound}
 
 -- a status that is new is known once it is added
 known-then : (m more extra : List LeaderStatus) (x : LeaderStatus) → isFresh (m ++ (more ++ (cond (isFresh m x) (x ∷ []) [] ++ extra))) x ≡ false
-unfolding isFresh
+unfolding isNew
 known-then m more extra x = go (isDecided x) refl (recall a r m) refl
   where
     a : ℕ

@@ -5,7 +5,7 @@ use lib.Dec.{eqb}
 use mathlib.Core.Bool.{Bool, true, false, cond, _&&_}
 use mathlib.Core.List.{List, [], _∷_, _++_, append-nil, append-assoc}
 use mathlib.Core.Path.{_≡_, refl, sym, ap, _∙_}
-use Rattle.commit_walk.specs.Memory.{isOf, recall, isUnknown, isFresh, freshOf, remembered}
+use Rattle.commit_walk.specs.Memory.{isOf, recall, isUnknown, isNew, isFresh, freshOf, remembered}
 use Rattle.commit_walk.specs.declared.parts.Recalled.{Recalled}
 use Rattle.commit_walk.specs.declared.parts.Recalled.the-variants.{Known, Unknown}
 use Rattle.consensus.specs.Statuses.{positionOf, isDecided}
@@ -70,11 +70,11 @@ module _ (m : List LeaderStatus) (a r : ℕ) (x : LeaderStatus) (h : isOf a r x 
   recall-at = ap (λ (n : ℕ). recall n (positionOf x .round .0) m) (of-author a r x h) ∙ ap (λ (n : ℕ). recall a n m) (of-round a r x h)
 
   pub fresh-known : (y : LeaderStatus) → recall a r m ≡ Known y → isFresh m x ≡ false
-  unfolding isFresh
+  unfolding isNew
   fresh-known y e = ap (λ (k : Recalled). isDecided x && isUnknown k) (recall-at ∙ e) ∙ and-false (isDecided x)
 
   pub fresh-unknown : recall a r m ≡ Unknown → isFresh m x ≡ isDecided x
-  unfolding isFresh
+  unfolding isNew
   fresh-unknown e = ap (λ (k : Recalled). isDecided x && isUnknown k) (recall-at ∙ e) ∙ and-true (isDecided x)
     where
       and-true : (b : Bool) → (b && true) ≡ b

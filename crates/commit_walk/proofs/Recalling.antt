@@ -7,7 +7,7 @@ use mathlib.Core.Bool.{Bool, true, false, cond, _&&_}
 use mathlib.Core.List.{List, _∷_}
 use mathlib.Core.Path.{_≡_, refl, sym, ap, _∙_}
 use native.Mathlib.Omega.{arith}
-use Rattle.commit_walk.specs.Memory.{isOf, recall, isUnknown, isFresh}
+use Rattle.commit_walk.specs.Memory.{isOf, recall, isUnknown, isNew}
 use Rattle.commit_walk.specs.Rows.{reportedRecalled, recallReport, reportedRecorded}
 use Rattle.commit_walk.specs.declared.parts.Recalled.{Recalled}
 use Rattle.commit_walk.specs.declared.parts.Recalled.the-variants.{Known, Unknown}
@@ -74,15 +74,12 @@ module _ (a r : ℕ) (l : List ℕ) (i : ℕ) (inv : RecallFrom a r l i) where
       recall-undecided f = (omega arith, rw (e, ← ed, f) at here)
 
 -- ---- one status
-module _ (memory : List LeaderStatus) (x : LeaderStatus) (t : Bool) (et : t ≡ isDecided x) where
-  pub fresh-undecided : t ≡ false → false ≡ isFresh memory x
-  unfolding isFresh
+module _ (known : ℕ → ℕ → Recalled) (x : LeaderStatus) (t : Bool) (et : t ≡ isDecided x) where
+  pub fresh-undecided : t ≡ false → false ≡ isNew known x
+  unfolding isNew
   fresh-undecided e = rw (← et, e) refl
 
-  pub fresh-is : (p : AuthorRound) (k k′ : Recalled) → t ≡ true → p ≡ positionOf x → reportedRecalled k ≡ recallReport (p .authority .0) (p .round .0) memory → k ≡ k′
-      → isUnknown k′ ≡ isFresh memory x
-  unfolding isFresh recallReport
+  pub fresh-is : (p : AuthorRound) (k k′ : Recalled) → t ≡ true → p ≡ positionOf x → k ≡ known (p .authority .0) (p .round .0) → k ≡ k′ → isUnknown k′ ≡ isNew known x
+  unfolding isNew
   fresh-is p k k′ e ep ek q =
-      ap isUnknown (sym q ∙ reportedRecalled-one k (recall (p .authority .0) (p .round .0) memory) ek)
-      ∙ ap (λ (y : AuthorRound). isUnknown (recall (y .authority .0) (y .round .0) memory)) ep
-      ∙ rw (← et, e) refl
+      ap isUnknown (sym q ∙ ek) ∙ ap (λ (y : AuthorRound). isUnknown (known (y .authority .0) (y .round .0))) ep ∙ rw (← et, e) refl

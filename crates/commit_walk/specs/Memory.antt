@@ -21,14 +21,26 @@ abbrev pub isUnknown : Recalled → Bool
 isUnknown (Known x) = false
 isUnknown Unknown = true
 
--- decided, and not remembered yet
-unfoldable pub isFresh : List LeaderStatus → LeaderStatus → Bool
-isFresh memory x = isDecided x && isUnknown (recall (positionOf x .authority .0) (positionOf x .round .0) memory)
+-- decided, and of a position of which nothing is known yet: `known` says what is
+unfoldable pub isNew : (ℕ → ℕ → Recalled) → LeaderStatus → Bool
+isNew known x = isDecided x && isUnknown (known (positionOf x .authority .0) (positionOf x .round .0))
 
 -- the new decisions in the order reached: the last of the list was reached first
+abbrev pub newsOf : (ℕ → ℕ → Recalled) → List LeaderStatus → List LeaderStatus
+newsOf known [] = []
+newsOf known (x ∷ xs) = newsOf known xs ++ cond (isNew known x) (x ∷ []) []
+
+-- what a memory knows of a position
+abbrev pub recallIn : List LeaderStatus → ℕ → ℕ → Recalled
+recallIn memory authority round = recall authority round memory
+
+-- decided, and not remembered yet
+abbrev pub isFresh : List LeaderStatus → LeaderStatus → Bool
+isFresh memory x = isNew (recallIn memory) x
+
+-- the decisions that a memory hasn't yet
 abbrev pub freshOf : List LeaderStatus → List LeaderStatus → List LeaderStatus
-freshOf memory [] = []
-freshOf memory (x ∷ xs) = freshOf memory xs ++ cond (isFresh memory x) (x ∷ []) []
+freshOf memory xs = newsOf (recallIn memory) xs
 
 -- the memory that a walk leaves
 unfoldable pub remembered : List LeaderStatus → List LeaderStatus → List LeaderStatus

@@ -4,15 +4,18 @@ use consensus::LeaderStatus;
 use consensus::parts::STATUS_WORDS;
 use consensus::parts::put_status;
 use consensus::parts::status_at;
+use index::lookup::position_by;
 use types::AuthorRound;
 use types::words::clear;
 ghost use mathlib.Core.Path.{_≡_};
-ghost use Prim.Native.Nat.{_+_, _*_, _≤_};
+ghost use Prim.Native.Nat.{_+_, _*_, _/_, _≤_};
 ghost use lib.ListN.{length, drop, take};
+ghost use Rattle.index.specs.Keys.{positionKey};
+ghost use Rattle.index.specs.Search.{placeKey, foundRow};
 ghost use Rattle.consensus.specs.Statuses.{statusesOf, wordsOf, statusWords};
-ghost use Rattle.commit_walk.specs.Memory.{isOf, isFresh, freshOf};
+ghost use Rattle.commit_walk.specs.Memory.{isOf, isNew, newsOf};
 ghost use Rattle.commit_walk.specs.Cut.{afterLast, keptOf, cutOf, areaOf};
-ghost use Rattle.commit_walk.specs.Rows.{reportedRecalled, recallReport, recordedOf, reportedRecorded, recordReport, memoryAfter};
+ghost use Rattle.commit_walk.specs.Rows.{reportedRecalled, recallReport, decisionIn, recallBy, newsBy, recordedOf, reportedRecorded, recordReport, memoryAfter};
 
 // What the memory has of a position.
 pub enum Recalled {
@@ -37,8 +40,8 @@ fn is_of(x: LeaderStatus, place: AuthorRound) -> bool
     p.authority.0 == place.authority.0
 }
 
-// The decision that the memory has of a position.
-pub fn remembered(memory: &[u64], place: AuthorRound) -> Recalled
+// The decision that the memory has of a position, by a scan.
+fn scanned(memory: &[u64], place: AuthorRound) -> Recalled
     ensures { λ r. ⌜ reportedRecalled r ≡ recallReport (place .authority .0) (place .round .0) (statusesOf (now (memory .entry))) ⌝ }
 {
     let mut i = 0;
@@ -54,14 +57,41 @@ pub fn remembered(memory: &[u64], place: AuthorRound) -> Recalled
     Recalled::Unknown
 }
 
+// The same by halving, where `order` has the rows in order of their positions.
+fn halved(memory: &[u64], order: &[u16], place: AuthorRound) -> Recalled
+    ensures { λ r. ⌜ r ≡ decisionIn (now (memory .entry)) (foundRow (positionKey (now (memory .entry))) (now (order .entry)) (length (now (memory .entry)) / statusWords) (placeKey place)) ⌝ }
+{
+    let rows = memory.len() / STATUS_WORDS;
+    let row = position_by(memory, order, rows, place);
+    if rows <= row {
+        return Recalled::Unknown;
+    }
+    let x = status_at(memory, row * STATUS_WORDS);
+    if x.is_decided() {
+        return Recalled::Known(x);
+    }
+    Recalled::Unknown
+}
+
+// The decision that the memory has of a position. Where `sorted` says that `order` has the memory's rows in order of their positions it is looked
+// up by halving.
+pub fn remembered(memory: &[u64], order: &[u16], sorted: bool, place: AuthorRound) -> Recalled
+    ensures { λ r. ⌜ r ≡ recallBy sorted (now (order .entry)) (now (memory .entry)) (place .authority .0) (place .round .0) ⌝ }
+{
+    if sorted {
+        return halved(memory, order, place);
+    }
+    scanned(memory, place)
+}
+
 // Whether a status is decided and not yet remembered.
-fn is_fresh(memory: &[u64], x: LeaderStatus) -> bool
-    ensures { λ r. ⌜ r ≡ isFresh (statusesOf (now (memory .entry))) x ⌝ }
+fn is_fresh(memory: &[u64], order: &[u16], sorted: bool, x: LeaderStatus) -> bool
+    ensures { λ r. ⌜ r ≡ isNew (recallBy sorted (now (order .entry)) (now (memory .entry))) x ⌝ }
 {
     if !x.is_decided() {
         return false;
     }
-    let found = remembered(memory, x.position());
+    let found = remembered(memory, order, sorted, x.position());
     match found {
         Recalled::Known(_) => false,
         Recalled::Unknown => true,
@@ -69,15 +99,15 @@ fn is_fresh(memory: &[u64], x: LeaderStatus) -> bool
 }
 
 // How many of the statuses are new decisions.
-fn count_fresh(memory: &[u64], rows: &[u64]) -> usize
-    ensures { λ r. ⌜ r ≡ length (freshOf (statusesOf (now (memory .entry))) (statusesOf (now (rows .entry)))) ⌝ }
+fn count_fresh(memory: &[u64], order: &[u16], sorted: bool, rows: &[u64]) -> usize
+    ensures { λ r. ⌜ r ≡ length (newsOf (recallBy sorted (now (order .entry)) (now (memory .entry))) (statusesOf (now (rows .entry)))) ⌝ }
 {
     let mut n = 0;
     let mut i = 0;
     while STATUS_WORDS <= rows.len() - i {
         let x = status_at(rows, i);
         i += STATUS_WORDS;
-        if is_fresh(memory, x) {
+        if is_fresh(memory, order, sorted, x) {
             n += 1;
         }
     }
@@ -85,16 +115,16 @@ fn count_fresh(memory: &[u64], rows: &[u64]) -> usize
 }
 
 // Puts the new decisions behind the used words of the memory, the last status first.
-fn append(memory: &mut [u64], used: usize, rows: &[u64])
-    requires { ⌜ used + length (freshOf (statusesOf (take used (now memory))) (statusesOf (now rows))) * statusWords ≤ length (now memory) ⌝ }
-    ensures { λ _. ⌜ now (memory .exit) ≡ recordedOf (now (memory .entry)) used (freshOf (statusesOf (take used (now (memory .entry)))) (statusesOf (now (rows .entry)))) ⌝ }
+fn append(memory: &mut [u64], used: usize, order: &[u16], sorted: bool, rows: &[u64])
+    requires { ⌜ used + length (newsOf (recallBy sorted (now order) (take used (now memory))) (statusesOf (now rows))) * statusWords ≤ length (now memory) ⌝ }
+    ensures { λ _. ⌜ now (memory .exit) ≡ recordedOf (now (memory .entry)) used (newsOf (recallBy sorted (now (order .entry)) (take used (now (memory .entry)))) (statusesOf (now (rows .entry)))) ⌝ }
 {
     let mut end = used;
     let mut k = rows.len() / STATUS_WORDS;
     while 0 < k {
         k -= 1;
         let x = status_at(rows, k * STATUS_WORDS);
-        if is_fresh(&memory[0..used], x) {
+        if is_fresh(&memory[0..used], order, sorted, x) {
             put_status(memory, end, x);
             end += STATUS_WORDS;
         }
@@ -102,20 +132,27 @@ fn append(memory: &mut [u64], used: usize, rows: &[u64])
 }
 
 // Remembers the new decisions among the statuses that a walk left, in the order reached; where the memory has no room for all of them, none.
-pub fn record(memory: &mut [u64], decided: usize, rows: &[u64]) -> Recorded
-    ensures { λ r. ⌜ reportedRecorded r ≡ recordReport (now (memory .entry)) decided (statusesOf (now (rows .entry))) ⌝ }
-    ensures remembers { λ _. ⌜ now (memory .exit) ≡ memoryAfter (now (memory .entry)) decided (statusesOf (now (rows .entry))) ⌝ }
+// Where `sorted` says so `order` has the first `decided` rows in order of their positions.
+pub fn record(
+    memory: &mut [u64],
+    decided: usize,
+    order: &[u16],
+    sorted: bool,
+    rows: &[u64],
+) -> Recorded
+    ensures { λ r. ⌜ reportedRecorded r ≡ recordReport (now (memory .entry)) decided (newsBy sorted (now (order .entry)) (now (memory .entry)) decided (statusesOf (now (rows .entry)))) ⌝ }
+    ensures remembers { λ _. ⌜ now (memory .exit) ≡ memoryAfter (now (memory .entry)) decided (newsBy sorted (now (order .entry)) (now (memory .entry)) decided (statusesOf (now (rows .entry)))) ⌝ }
 {
     let room = memory.len() / STATUS_WORDS;
     if room < decided {
         return Recorded::Full;
     }
     let used = decided * STATUS_WORDS;
-    let fresh = count_fresh(&memory[0..used], rows);
+    let fresh = count_fresh(&memory[0..used], order, sorted, rows);
     if room - decided < fresh {
         return Recorded::Full;
     }
-    append(memory, used, rows);
+    append(memory, used, order, sorted, rows);
     Recorded::Rows(decided + fresh)
 }
 

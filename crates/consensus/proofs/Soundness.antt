@@ -10,10 +10,10 @@ use native.Mathlib.Omega.{arith}
 use Rattle.block_store.proofs.Tests.{zeros-from, from-zeros}
 use Rattle.block_store.specs.Sound.{zeros}
 use Rattle.block_store.specs.Store.{fieldOf, isAt}
-use Rattle.consensus.specs.Sound.{statusField, blockFits, rowFits, samePosition, otherPosition, newPosition, soundStatuses, soundMemory, SoundRow, SoundStatuses, SoundMemory}
+use Rattle.consensus.specs.Sound.{statusField, blockFits, rowFits, samePosition, otherPosition, newPosition, soundStatuses, soundMemory, soundButTwins, SoundRow, SoundStatuses, SoundMemory}
 use Rattle.consensus.specs.Statuses.{statusWords, commitKind, skipKind, undecidedKind}
 use Rattle.types.proofs.Below.{all-at, all-intro}
-use Rattle.types.proofs.Tests.{both, both-left, both-right, by-test, clash, fails}
+use Rattle.types.proofs.Tests.{both, both-left, both-right, and-false, by-test, clash, fails}
 use Rattle.types.specs.Below.{allBelow}
 use Rattle.types.specs.Limits.{roundLimit}
 
@@ -193,22 +193,55 @@ module _ (size : ℕ) (bs : List ℕ) (st : ℕ) (rows : List ℕ) (n : ℕ) whe
       (both (all-intro (newPosition rows) n (λ i h. new-at rows i (λ j l. s .once i j h l))) (from-zeros rows (n * statusWords) (s .unused)))))
 
   -- as the code tests
-  pub memory-broken : (length rows % statusWords ≡ 0 → ⊥) → false ≡ soundMemory size bs st rows n
-  memory-broken w = sym (fails _ (λ e. w (sound-memory e .whole)))
+  pub memory-broken : (length rows % statusWords ≡ 0 → ⊥) → false ≡ soundButTwins size bs st rows n
+  unfolding soundButTwins
+  memory-broken w = rw (ne-eqb (length rows % statusWords) 0 w) refl
 
-  pub memory-short : length rows / statusWords < n → false ≡ soundMemory size bs st rows n
-  memory-short h = sym (fails _ (λ e. let r = sound-memory e .room in omega arith))
+  module _ (w : length rows % statusWords ≡ 0) where
+    pub memory-short : length rows / statusWords < n → false ≡ soundButTwins size bs st rows n
+    unfolding soundButTwins
+    memory-short h = rw (eq-eqb (length rows % statusWords) 0 w, lt-leb n (length rows / statusWords) h) refl
 
-  module _ (w : length rows % statusWords ≡ 0) (h : n ≤ length rows / statusWords) where
-    pub memory-unfit : allBelow (rowFits size bs st skipKind rows) n ≡ false → false ≡ soundMemory size bs st rows n
-    unfolding soundMemory
-    memory-unfit e = rw (eq-eqb (length rows % statusWords) 0 w, le-leb n (length rows / statusWords) h, e) refl
+    module _ (h : n ≤ length rows / statusWords) where
+      pub memory-unfit : allBelow (rowFits size bs st skipKind rows) n ≡ false → false ≡ soundButTwins size bs st rows n
+      unfolding soundButTwins
+      memory-unfit e = rw (eq-eqb (length rows % statusWords) 0 w, le-leb n (length rows / statusWords) h, e) refl
 
-    module _ (f : allBelow (rowFits size bs st skipKind rows) n ≡ true) where
-      pub memory-twice : allBelow (newPosition rows) n ≡ false → false ≡ soundMemory size bs st rows n
-      unfolding soundMemory
-      memory-twice e = rw (eq-eqb (length rows % statusWords) 0 w, le-leb n (length rows / statusWords) h, f, e) refl
+      pub memory-rest : allBelow (rowFits size bs st skipKind rows) n ≡ true → (t : Bool) → t ≡ zeros (drop (n * statusWords) rows) → t ≡ soundButTwins size bs st rows n
+      unfolding soundButTwins
+      memory-rest e t z = rw (eq-eqb (length rows % statusWords) 0 w, le-leb n (length rows / statusWords) h, e) z
 
-      pub memory-rest : allBelow (newPosition rows) n ≡ true → (t : Bool) → t ≡ zeros (drop (n * statusWords) rows) → t ≡ soundMemory size bs st rows n
-      unfolding soundMemory
-      memory-rest e t z = rw (eq-eqb (length rows % statusWords) 0 w, le-leb n (length rows / statusWords) h, f, e) z
+  -- sound, and no position twice
+  memory-split : soundMemory size bs st rows n ≡ (soundButTwins size bs st rows n && allBelow (newPosition rows) n)
+  unfolding soundMemory soundButTwins
+  memory-split =
+      moved (eqb (length rows % statusWords) 0) (leb n (length rows / statusWords)) (allBelow (rowFits size bs st skipKind rows) n)
+      (allBelow (newPosition rows) n) (zeros (drop (n * statusWords) rows))
+    where
+      moved : (a b c d e : Bool) → (a && (b && (c && (d && e)))) ≡ ((a && (b && (c && e))) && d)
+      moved false b c d e = refl
+      moved true false c d e = refl
+      moved true true false d e = refl
+      moved true true true true true = refl
+      moved true true true true false = refl
+      moved true true true false true = refl
+      moved true true true false false = refl
+
+  pub memory-stops : soundButTwins size bs st rows n ≡ false → false ≡ soundMemory size bs st rows n
+  memory-stops e = rw (memory-split, e) refl
+
+  pub memory-says : soundButTwins size bs st rows n ≡ true → (t : Bool) → t ≡ allBelow (newPosition rows) n → t ≡ soundMemory size bs st rows n
+  memory-says e t et = rw (memory-split, e) et
+
+  pub memory-twice : allBelow (newPosition rows) n ≡ false → false ≡ soundMemory size bs st rows n
+  memory-twice e = rw (memory-split, e, and-false) refl
+
+  pub memory-once : allBelow (newPosition rows) n ≡ true → (t : Bool) → t ≡ soundButTwins size bs st rows n → t ≡ soundMemory size bs st rows n
+  memory-once e t et = rw (memory-split, e, and-true) et
+    where
+      and-true : (b : Bool) → (b && true) ≡ b
+      and-true true = refl
+      and-true false = refl
+
+  pub memory-positions : soundMemory size bs st rows n ≡ true → allBelow (newPosition rows) n ≡ true
+  memory-positions e = both-right (soundButTwins size bs st rows n) (allBelow (newPosition rows) n) (sym memory-split ∙ e)

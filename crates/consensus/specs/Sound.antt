@@ -1,16 +1,16 @@
 -- When a decision memory is sound, and when a list of statuses is: document 01, "Numbers and tables". Once as records to read, once as tests
 -- that the code computes. Assumes nothing: these are definitions.
 use Prim.Native.Nat.{ℕ, _+_, _*_, _/_, _%_, _<_, _≤_}
-use mathlib.Core.Path.{_≡_}
-use mathlib.Core.Bool.{Bool, cond, not, _&&_}
-use mathlib.Core.List.{List}
 use lib.Dec.{eqb, ltb, leb}
 use lib.ListN.{length, getD, drop}
+use mathlib.Core.Bool.{Bool, cond, not, _&&_}
+use mathlib.Core.List.{List}
+use mathlib.Core.Path.{_≡_}
+use Rattle.block_store.specs.Sound.{zeros}
+use Rattle.block_store.specs.Store.{fieldOf, isAt}
+use Rattle.consensus.specs.Statuses.{statusWords, commitKind, skipKind, undecidedKind}
 use Rattle.types.specs.Below.{allBelow}
 use Rattle.types.specs.Limits.{roundLimit}
-use Rattle.block_store.specs.Store.{fieldOf, isAt}
-use Rattle.block_store.specs.Sound.{zeros}
-use Rattle.consensus.specs.Statuses.{statusWords, commitKind, skipKind, undecidedKind}
 
 -- word k of status row i
 unfoldable pub statusField : List ℕ → ℕ → ℕ → ℕ
@@ -74,3 +74,10 @@ soundMemory size blocks stored rows count =
     eqb (length rows % statusWords) 0
     && (leb count (length rows / statusWords)
     && (allBelow (rowFits size blocks stored skipKind rows) count && (allBelow (newPosition rows) count && zeros (drop (count * statusWords) rows))))
+
+-- all of it but that no position occurs twice
+unfoldable pub soundButTwins : ℕ → List ℕ → ℕ → List ℕ → ℕ → Bool
+soundButTwins size blocks stored rows count =
+    eqb (length rows % statusWords) 0
+    && (leb count (length rows / statusWords)
+    && (allBelow (rowFits size blocks stored skipKind rows) count && zeros (drop (count * statusWords) rows)))

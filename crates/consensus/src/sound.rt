@@ -6,6 +6,8 @@ use crate::parts::STATUS_WORDS;
 use crate::parts::UNDECIDED;
 use block_store::parts::is_at;
 use block_store::sound::zero_from;
+use index::build::MAX_BLOCKS;
+use index::build::index_positions;
 use index::build::positions_are_distinct;
 use types::AuthorityIndex;
 use types::ROUND_LIMIT;
@@ -14,9 +16,12 @@ use types::words::index;
 use types::words::word;
 ghost use mathlib.Core.Path.{_≡_};
 ghost use Prim.Native.Nat.{_<_};
+ghost use lib.ListN.{length, replicate};
 ghost use Rattle.types.specs.Below.{allBelow};
+ghost use Rattle.index.specs.Keys.{positionKey};
+ghost use Rattle.index.specs.Places.{hasRoom, orderedRows, frontAfter};
 ghost use Rattle.consensus.specs.Statuses.{statusWords};
-ghost use Rattle.consensus.specs.Sound.{statusField, blockFits, rowFits, newPosition, soundStatuses, soundMemory};
+ghost use Rattle.consensus.specs.Sound.{statusField, blockFits, rowFits, newPosition, soundStatuses, soundButTwins, soundMemory};
 
 // Word k of a status row.
 fn field(rows: &[u64], i: usize, k: usize) -> u64
@@ -107,15 +112,15 @@ pub fn statuses_are_sound(size: u64, blocks: &[u64], stored: usize, statuses: &[
     rows_fit(size, blocks, stored, UNDECIDED, statuses, count)
 }
 
-// Whether a decision memory that has `count` rows in use is sound for a committee of that size.
-pub fn memory_is_sound(
+// Whether a decision memory that has `count` rows in use is sound for a committee of that size, but for positions that occur twice.
+fn memory_is_sound_but_twins(
     size: u64,
     blocks: &[u64],
     stored: usize,
     memory: &[u64],
     count: usize,
 ) -> bool
-    ensures { λ r. ⌜ r ≡ soundMemory size (now (blocks .entry)) stored (now (memory .entry)) count ⌝ }
+    ensures { λ r. ⌜ r ≡ soundButTwins size (now (blocks .entry)) stored (now (memory .entry)) count ⌝ }
 {
     if memory.len() % STATUS_WORDS != 0 {
         return false;
@@ -126,8 +131,58 @@ pub fn memory_is_sound(
     if !rows_fit(size, blocks, stored, SKIP, memory, count) {
         return false;
     }
-    if !positions_differ(memory, count) {
+    zero_from(memory, count * STATUS_WORDS)
+}
+
+// Whether a decision memory that has `count` rows in use is sound for a committee of that size.
+pub fn memory_is_sound(
+    size: u64,
+    blocks: &[u64],
+    stored: usize,
+    memory: &[u64],
+    count: usize,
+) -> bool
+    ensures { λ r. ⌜ r ≡ soundMemory size (now (blocks .entry)) stored (now (memory .entry)) count ⌝ }
+{
+    if !memory_is_sound_but_twins(size, blocks, stored, memory, count) {
         return false;
     }
-    zero_from(memory, count * STATUS_WORDS)
+    positions_differ(memory, count)
+}
+
+// Whether areas of these lengths have room for so many rows in order.
+pub fn has_room(count: usize, order: usize, work: usize) -> bool
+    ensures { λ r. ⌜ r ≡ hasRoom count order work ⌝ }
+{
+    if MAX_BLOCKS < count {
+        return false;
+    }
+    if order < count {
+        return false;
+    }
+    count <= work
+}
+
+// The same for a call that goes on to look positions up: afterwards the front of `order` has the rows in use in the order of their positions, zeros
+// where two share one, and those of `work` are zero. Where an area lacks room both stay as they are.
+pub fn memory_is_sound_by(
+    size: u64,
+    blocks: &[u64],
+    stored: usize,
+    memory: &[u64],
+    count: usize,
+    order: &mut [u16],
+    work: &mut [u16],
+) -> bool
+    ensures { λ r. ⌜ r ≡ soundMemory size (now (blocks .entry)) stored (now (memory .entry)) count ⌝ }
+    ensures order { λ _. ⌜ now (order .exit) ≡ frontAfter (hasRoom count (length (now (order .entry))) (length (now (work .entry)))) count (orderedRows (positionKey (now (memory .entry))) count) (now (order .entry)) ⌝ }
+    ensures work { λ _. ⌜ now (work .exit) ≡ frontAfter (hasRoom count (length (now (order .entry))) (length (now (work .entry)))) count (replicate count 0) (now (work .entry)) ⌝ }
+{
+    if !has_room(count, order.len(), work.len()) {
+        return memory_is_sound(size, blocks, stored, memory, count);
+    }
+    if !index_positions(memory, count, order, work) {
+        return false;
+    }
+    memory_is_sound_but_twins(size, blocks, stored, memory, count)
 }

@@ -7,7 +7,7 @@ use mathlib.Core.List.{List, [], _∷_, _++_}
 use mathlib.Core.Path.{_≡_, refl, subst}
 use native.Mathlib.Nat.{mod-lt}
 use native.Mathlib.Omega.{arith}
-use Rattle.base_committer.specs.Decide.{leaderBlocks, enoughLeaderSupport, isSkipped, tryDirectDecide, certifiedFrom, decideLeaderFromAnchor, anchorOf, fromAnchor, tryIndirectDecide}
+use Rattle.base_committer.specs.Decide.{isBy, leaderBlocks, enoughLeaderSupport, isSkipped, tryDirectDecide, certifiedFrom, decideLeaderFromAnchor, anchorOf, fromAnchor, tryIndirectDecide}
 use Rattle.base_committer.specs.Only.{popOr}
 use Rattle.base_committer.specs.Waves.{fit, waveNumber, leaderRound, decisionRound, anchorRound, electLeader}
 use Rattle.base_committer.specs.declared.indirect.Anchor.{Anchor}
@@ -23,7 +23,9 @@ use Rattle.commit_walk.specs.Walk.{Seat, is}
 use Rattle.consensus.specs.Statuses.{at, positionOf}
 use Rattle.consensus.specs.declared.status.LeaderStatus.{LeaderStatus}
 use Rattle.consensus.specs.declared.status.LeaderStatus.the-variants.{Commit, Skip, Undecided}
-use Rattle.support.specs.Quorums.{keep}
+use Rattle.index.specs.Rounds.{roundIs}
+use Rattle.support.specs.Quorums.{keep, roundRows}
+use Rattle.types.proofs.Tests.{both}
 use Rattle.types.specs.Below.{rowsBelow}
 use Rattle.types.specs.Limits.{roundLimit}
 use Rattle.universal_committer.proofs.Placing.{placed}
@@ -48,67 +50,79 @@ pub record Good (size : ℕ) (bs : List ℕ) (n : ℕ) (x : LeaderStatus) : Type
 
 -- ---- the rules
 
--- the rows are stored blocks of that position
-abbrev Stored : List ℕ → ℕ → ℕ → ℕ → List ℕ → Type 0
-Stored bs n a r [] = Unit {0}
-Stored bs n a r (row ∷ rows) = ((row < n) × (isAt bs a r row ≡ true)) × Stored bs n a r rows
+-- the rows are stored blocks that pass a test
+abbrev Stored : ℕ → (ℕ → Bool) → List ℕ → Type 0
+Stored n p [] = Unit {0}
+Stored n p (row ∷ rows) = ((row < n) × (p row ≡ true)) × Stored n p rows
 
-stored-append : (bs : List ℕ) (n a r : ℕ) (xs ys : List ℕ) → Stored bs n a r xs → Stored bs n a r ys → Stored bs n a r (xs ++ ys)
-stored-append bs n a r [] ys p q = q
-stored-append bs n a r (x ∷ xs) ys p q = (p .0, stored-append bs n a r xs ys (p .1) q)
+stored-append : (n : ℕ) (p : ℕ → Bool) (xs ys : List ℕ) → Stored n p xs → Stored n p ys → Stored n p (xs ++ ys)
+stored-append n p [] ys g h = h
+stored-append n p (x ∷ xs) ys g h = (g .0, stored-append n p xs ys (g .1) h)
 
-stored-below : (bs : List ℕ) (n a r k : ℕ) → k ≤ n → Stored bs n a r (rowsBelow (isAt bs a r) k)
+stored-below : (n : ℕ) (p : ℕ → Bool) (k : ℕ) → k ≤ n → Stored n p (rowsBelow p k)
 unfolding rowsBelow
-stored-below bs n a r zero h = tt
-stored-below bs n a r (suc k) h = stored-append bs n a r (rowsBelow (isAt bs a r) k) (cond (isAt bs a r k) (k ∷ []) []) (stored-below bs n a r k (omega arith)) (go (isAt bs a r k) refl)
+stored-below n p zero h = tt
+stored-below n p (suc k) h = stored-append n p (rowsBelow p k) (cond (p k) (k ∷ []) []) (stored-below n p k (omega arith)) (go (p k) refl)
   where
-    go : (t : Bool) → isAt bs a r k ≡ t → Stored bs n a r (cond t (k ∷ []) [])
+    go : (t : Bool) → p k ≡ t → Stored n p (cond t (k ∷ []) [])
     go true e = ((h, e), tt)
     go false e = tt
 
-stored-kept : (bs : List ℕ) (n a r : ℕ) (q : ℕ → Bool) (rows : List ℕ) → Stored bs n a r rows → Stored bs n a r (keep q rows)
-stored-kept bs n a r q [] s = tt
-stored-kept bs n a r q (x ∷ xs) s = go (q x) (stored-kept bs n a r q xs (s .1))
+stored-kept : (n : ℕ) (p q : ℕ → Bool) (rows : List ℕ) → Stored n p rows → Stored n p (keep q rows)
+stored-kept n p q [] s = tt
+stored-kept n p q (x ∷ xs) s = go (q x) (stored-kept n p q xs (s .1))
   where
-    go : (t : Bool) → Stored bs n a r (keep q xs) → Stored bs n a r (cond t (x ∷ keep q xs) (keep q xs))
+    go : (t : Bool) → Stored n p (keep q xs) → Stored n p (cond t (x ∷ keep q xs) (keep q xs))
     go true ih = (s .0, ih)
     go false ih = ih
+
+-- those of a round that are by an authority have that position
+stored-by : (bs : List ℕ) (n a r : ℕ) (rows : List ℕ) → Stored n (roundIs bs r) rows → Stored n (isAt bs a r) (keep (isBy bs a) rows)
+unfolding isAt isBy roundIs fieldOf
+stored-by bs n a r [] s = tt
+stored-by bs n a r (x ∷ xs) s = go (isBy bs a x) refl (stored-by bs n a r xs (s .1))
+  where
+    go : (t : Bool) → isBy bs a x ≡ t → Stored n (isAt bs a r) (keep (isBy bs a) xs) → Stored n (isAt bs a r) (cond t (x ∷ keep (isBy bs a) xs) (keep (isBy bs a) xs))
+    go true e ih = ((s .0 .0, both e (s .0 .1)), ih)
+    go false e ih = ih
 
 abbrev Named : List ℕ → ℕ → Decision → Type 0
 Named bs n (Decided x) = Names bs n x
 Named bs n (Refused m) = Unit {0}
 
-pop-named : (bs : List ℕ) (n a r : ℕ) (other : LeaderStatus) (rows : List ℕ) → Names bs n other → Stored bs n a r rows → Named bs n (popOr other (at a r) rows)
+pop-named : (bs : List ℕ) (n a r : ℕ) (other : LeaderStatus) (rows : List ℕ) → Names bs n other → Stored n (isAt bs a r) rows → Named bs n (popOr other (at a r) rows)
 pop-named bs n a r other [] h s = h
 pop-named bs n a r other (row ∷ []) h s = (s .0 .0, at-authority bs a r row (s .0 .1), at-round bs a r row (s .0 .1))
 pop-named bs n a r other (row ∷ (next ∷ rest)) h s = tt
 
 module _ (s : Store) (linked : ℕ → ℕ → Bool) (stakes : List ℕ) (floor : ℕ) where
-  leaders-stored : (q : ℕ → Bool) (a r : ℕ) → Stored (s .blocks) (s .count) a r (keep q (leaderBlocks (s .blocks) (s .count) a r))
-  unfolding leaderBlocks
-  leaders-stored q a r = stored-kept (s .blocks) (s .count) a r q (rowsBelow (isAt (s .blocks) a r) (s .count)) (stored-below (s .blocks) (s .count) a r (s .count) (omega arith))
+  leaders-stored : (q : ℕ → Bool) (a r : ℕ) → Stored (s .count) (isAt (s .blocks) a r) (keep q (leaderBlocks (s .blocks) a (roundRows s r)))
+  unfolding leaderBlocks roundRows
+  leaders-stored q a r =
+      stored-kept (s .count) (isAt (s .blocks) a r) q (keep (isBy (s .blocks) a) (rowsBelow (roundIs (s .blocks) r) (s .count)))
+      (stored-by (s .blocks) (s .count) a r (rowsBelow (roundIs (s .blocks) r) (s .count)) (stored-below (s .count) (roundIs (s .blocks) r) (s .count) (omega arith)))
 
   module _ (b : BaseCommitterOptions) (a r : ℕ) where
-    direct-named : Named (s .blocks) (s .count) (tryDirectDecide s stakes floor b a r)
+    direct-named : Named (s .blocks) (s .count) (tryDirectDecide s (roundRows s) stakes floor b a r)
     unfolding tryDirectDecide
-    direct-named = go (isSkipped s stakes floor b a r)
+    direct-named = go (isSkipped s (roundRows s) stakes floor b a r)
       where
-        go : (t : Bool) → Named (s .blocks) (s .count) (cond t (Decided (Skip (at a r))) (popOr (Undecided (at a r)) (at a r) (keep (enoughLeaderSupport s stakes floor (decisionRound b (waveNumber b r))) (leaderBlocks (s .blocks) (s .count) a r))))
+        go : (t : Bool) → Named (s .blocks) (s .count) (cond t (Decided (Skip (at a r))) (popOr (Undecided (at a r)) (at a r) (keep (enoughLeaderSupport s (roundRows s) stakes floor (decisionRound b (waveNumber b r))) (leaderBlocks (s .blocks) a (roundRows s r)))))
         go true = tt
-        go false = pop-named (s .blocks) (s .count) a r (Undecided (at a r)) (keep (enoughLeaderSupport s stakes floor (decisionRound b (waveNumber b r))) (leaderBlocks (s .blocks) (s .count) a r)) tt (leaders-stored (enoughLeaderSupport s stakes floor (decisionRound b (waveNumber b r))) a r)
+        go false = pop-named (s .blocks) (s .count) a r (Undecided (at a r)) (keep (enoughLeaderSupport s (roundRows s) stakes floor (decisionRound b (waveNumber b r))) (leaderBlocks (s .blocks) a (roundRows s r))) tt (leaders-stored (enoughLeaderSupport s (roundRows s) stakes floor (decisionRound b (waveNumber b r))) a r)
 
-    anchor-named : (k : Anchor) → Named (s .blocks) (s .count) (fromAnchor s linked stakes floor b a r k)
+    anchor-named : (k : Anchor) → Named (s .blocks) (s .count) (fromAnchor s (roundRows s) linked stakes floor b a r k)
     unfolding decideLeaderFromAnchor
     anchor-named (At anchor) =
-        pop-named (s .blocks) (s .count) a r (Skip (at a r)) (keep (certifiedFrom s linked stakes floor (decisionRound b (waveNumber b r)) anchor) (leaderBlocks (s .blocks) (s .count) a r)) tt
-        (leaders-stored (certifiedFrom s linked stakes floor (decisionRound b (waveNumber b r)) anchor) a r)
+        pop-named (s .blocks) (s .count) a r (Skip (at a r)) (keep (certifiedFrom s (roundRows s) linked stakes floor (decisionRound b (waveNumber b r)) anchor) (leaderBlocks (s .blocks) a (roundRows s r))) tt
+        (leaders-stored (certifiedFrom s (roundRows s) linked stakes floor (decisionRound b (waveNumber b r)) anchor) a r)
     anchor-named Nothing = tt
 
     ruled-named : (later : List LeaderStatus) → Named (s .blocks) (s .count) (ruledOf s linked stakes floor b a r later)
     unfolding ruledOf tryIndirectDecide
-    ruled-named later = go (isRuled (tryDirectDecide s stakes floor b a r))
+    ruled-named later = go (isRuled (tryDirectDecide s (roundRows s) stakes floor b a r))
       where
-        go : (t : Bool) → Named (s .blocks) (s .count) (cond t (tryDirectDecide s stakes floor b a r) (tryIndirectDecide s linked stakes floor b a r later))
+        go : (t : Bool) → Named (s .blocks) (s .count) (cond t (tryDirectDecide s (roundRows s) stakes floor b a r) (tryIndirectDecide s (roundRows s) linked stakes floor b a r later))
         go true = direct-named
         go false = anchor-named (anchorOf (anchorRound b r) later)
 

@@ -196,6 +196,33 @@ pub unmet-quorum : (bs st : List ℕ) (floor : ℕ) (xs : List ℕ) (t : Tally) 
 unfolding quorumOf
 unmet-quorum bs st floor xs t c = sym (le-ltb floor (stakeOf bs st xs) (omega (arith, c .1)))
 
+-- ---- the tally, row after row, says what the sum over authorities says
+
+-- counting the rows in turn passes the floor
+abbrev pub meets : List ℕ → List ℕ → Tally → List ℕ → Bool
+meets bs st t [] = false
+meets bs st t (r ∷ rs) = cond (countedOf bs st t r .met) true (meets bs st (countedOf bs st t r) rs)
+
+met-is : (bs st : List ℕ) (floor : ℕ) (xs rs : List ℕ) (t : Tally) → Tallied bs st floor xs t → meets bs st t rs ≡ quorumOf bs st floor (xs ++ rs)
+met-is bs st floor xs [] t c = unmet-quorum bs st floor xs t c ∙ sym (ap (quorumOf bs st floor) (append-nil {A = ℕ} xs))
+met-is bs st floor xs (r ∷ rs) t c =
+    by-test (countedOf bs st t r .met)
+    (λ m. ap turned m
+    ∙ met-quorum bs st floor (xs ++ (r ∷ [])) (xs ++ (r ∷ rs)) (tally-met bs st floor xs r t (countedOf bs st t r) c refl m)
+    (within-more bs (xs ++ (r ∷ [])) (xs ++ (r ∷ rs)) rs (sym whole)))
+    (λ m. ap turned m
+    ∙ met-is bs st floor (xs ++ (r ∷ [])) rs (countedOf bs st t r) (tally-more bs st floor xs r t (countedOf bs st t r) c refl m)
+    ∙ ap (quorumOf bs st floor) whole)
+  where
+    whole : (xs ++ (r ∷ [])) ++ rs ≡ xs ++ (r ∷ rs)
+    whole = append-assoc {A = ℕ} xs (r ∷ []) rs
+
+    turned : Bool → Bool
+    turned b = cond b true (meets bs st (countedOf bs st t r) rs)
+
+pub tally-is : (bs st : List ℕ) (floor : ℕ) (rows : List ℕ) (t : Tally) → t ≡ newTally floor → meets bs st t rows ≡ quorumOf bs st floor rows
+tally-is bs st floor rows t e = met-is bs st floor [] rows t (tally-none bs st floor t e)
+
 -- ---- the Rust's aggregator, row after row, says what the sum over authorities says
 
 aggregated : (bs st : List ℕ) (floor : ℕ) (xs rs : List ℕ) (voters : AuthoritySet) (sum : ℕ) → Voters bs xs voters → sum ≡ stakeOf bs st xs → sum ≤ floor

@@ -1,9 +1,10 @@
 -- Votes, certificates, and quorums of the authors of some rows: base_committer.rs, is_vote and is_certificate. Assumes nothing: these are definitions.
 use Prim.Native.Nat.{ℕ}
-use mathlib.Core.Bool.{Bool, true, false, cond, not, _&&_, _||_}
+use mathlib.Core.Bool.{Bool, true, false, cond, not, _||_}
 use mathlib.Core.List.{List, [], _∷_}
 use lib.Dec.{eqb, ltb}
 use Rattle.types.specs.Below.{rowsBelow}
+use Rattle.index.specs.Rounds.{roundIs}
 use Rattle.committee.specs.Aggregators.{stakeWhere}
 use Rattle.block_store.specs.Store.{Store, fieldOf, authorityOf, roundOf, includesOf}
 use Rattle.support.specs.Support.{findSupport}
@@ -55,13 +56,13 @@ everyRow row = true
 abbrev pub noVote : Store → ℕ → ℕ → Bool
 noVote s leader row = not (isVote s leader row)
 
--- a row of that round that has p
-unfoldable pub inRound : List ℕ → ℕ → (ℕ → Bool) → ℕ → Bool
-inRound blocks round p row = eqb (fieldOf blocks row 1) round && p row
+-- the rows of a round
+unfoldable pub roundRows : Store → ℕ → List ℕ
+roundRows s round = rowsBelow (roundIs (s .blocks) round) (s .count)
 
--- the authors of the blocks of a round that have p are a quorum
-unfoldable pub quorumIn : Store → List ℕ → ℕ → ℕ → (ℕ → Bool) → Bool
-quorumIn s stakes floor round p = quorumOf (s .blocks) stakes floor (rowsBelow (inRound (s .blocks) round p) (s .count))
+-- the authors of those of the rows that have p are a quorum
+unfoldable pub quorumIn : Store → List ℕ → ℕ → List ℕ → (ℕ → Bool) → Bool
+quorumIn s stakes floor rows p = quorumOf (s .blocks) stakes floor (keep p rows)
 
 -- which rows a test counts
 abbrev pub passes : Store → List ℕ → ℕ → Test → ℕ → Bool

@@ -5,6 +5,8 @@ use crate::search::support_of_block;
 use block_store::parts::authority_at;
 use block_store::parts::includes_of;
 use block_store::parts::round_at;
+use index::lookup::first_of_round;
+use index::lookup::row_at;
 use types::AuthoritySet;
 use types::MAX_AUTHORITIES;
 use types::RoundNumber;
@@ -12,6 +14,7 @@ use types::Stake;
 use types::words::index;
 use types::words::word;
 ghost use mathlib.Core.Path.{_≡_};
+ghost use Rattle.index.specs.Rounds.{rowsOfRound};
 ghost use Rattle.block_store.specs.Store.{storeOf};
 ghost use Rattle.support.specs.Quorums.{isVote, isCertificate, passes, quorumIn};
 ghost use Rattle.support.specs.Counting.{newTally, shareOfRow, countedOf};
@@ -140,30 +143,32 @@ fn row_passes(
     }
 }
 
-// Whether the authors of the rows of a round that are counted have more stake than the floor.
+// Whether the authors of the rows of a round that are counted have more stake than the floor. `order` has the stored rows in order.
 pub fn quorum_in(
     blocks: &[u64],
     includes: &[u64],
     stored: usize,
+    order: &[u16],
     stakes: &[u64],
     floor: Stake,
     round: RoundNumber,
     test: Test,
 ) -> bool
-    ensures { λ r. ⌜ r ≡ quorumIn (storeOf (now (blocks .entry)) (now (includes .entry)) stored) (now (stakes .entry)) (floor .0) (round .0) (passes (storeOf (now (blocks .entry)) (now (includes .entry)) stored) (now (stakes .entry)) (floor .0) test) ⌝ }
+    ensures { λ r. ⌜ r ≡ quorumIn (storeOf (now (blocks .entry)) (now (includes .entry)) stored) (now (stakes .entry)) (floor .0) (rowsOfRound (now (blocks .entry)) (now (order .entry)) stored (round .0)) (passes (storeOf (now (blocks .entry)) (now (includes .entry)) stored) (now (stakes .entry)) (floor .0) test) ⌝ }
 {
     let mut t = new_tally(floor);
-    let mut k = 0;
+    let mut k = first_of_round(blocks, order, stored, round);
     while k < stored {
-        let row = k;
+        let row = row_at(order, k);
         k += 1;
         let found = round_at(blocks, row);
-        if found.0 == round.0 {
-            if row_passes(blocks, includes, stored, stakes, floor, test, row) {
-                t = count(t, blocks, stakes, row);
-                if t.met {
-                    return true;
-                }
+        if found.0 != round.0 {
+            return false;
+        }
+        if row_passes(blocks, includes, stored, stakes, floor, test, row) {
+            t = count(t, blocks, stakes, row);
+            if t.met {
+                return true;
             }
         }
     }

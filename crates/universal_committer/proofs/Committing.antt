@@ -11,9 +11,10 @@ use native.Mathlib.Omega.{arith}
 use Rattle.block_store.specs.Sound.{soundStore}
 use Rattle.block_store.specs.Store.{Store, fieldOf}
 use Rattle.commit_walk.proofs.Growing.{growing}
+use Rattle.commit_walk.proofs.Halving.{sorted-news}
 use Rattle.commit_walk.specs.Cut.{cutOf, areaOf}
 use Rattle.commit_walk.specs.Memory.{freshOf, remembered}
-use Rattle.commit_walk.specs.Rows.{decisionsOf, recordedOf, rowsAfter, hasRoom, reportedRecorded, recordReport, memoryAfter}
+use Rattle.commit_walk.specs.Rows.{SortedIf, decisionsOf, newsBy, recordedOf, hasRoom, reportedRecorded, recordReport, memoryAfter}
 use Rattle.commit_walk.specs.Walk.{Seat, Distinct, walk, Examined, seen, two, examine, recorded}
 use Rattle.commit_walk.specs.declared.parts.Recorded.{Recorded}
 use Rattle.committee.specs.Committees.{soundOf, judged, stakeWords}
@@ -48,83 +49,77 @@ use Rattle.commit_walk.specs.declared.parts.Recorded.the-variants as recorded-a
 use Rattle.universal_committer.specs.declared.calls.Committed.the-variants as committed
 use Rattle.universal_committer.specs.declared.walk.Walked.the-variants as walked
 
--- ---- settling: `xs` are the statuses that the walk left
-module _ (memory : List ℕ) (decided : ℕ) (xs : List LeaderStatus) where
-  room-is : hasRoom memory decided xs ≡ leb (decided + length (freshOf (decisionsOf memory decided) xs)) (length memory / statusWords)
-  unfolding hasRoom rowsAfter
-  room-is = refl
+-- ---- settling: `xs` are the statuses that the walk left, `news` the new decisions among them as the code finds them
+module _ (memory : List ℕ) (decided : ℕ) (xs news : List LeaderStatus) (en : news ≡ freshOf (decisionsOf memory decided) xs) where
+  room-is : hasRoom memory decided news ≡ leb (decided + length (freshOf (decisionsOf memory decided) xs)) (length memory / statusWords)
+  unfolding hasRoom
+  room-is = rw en refl
 
-  rows-are : rowsAfter memory decided xs ≡ decided + length (freshOf (decisionsOf memory decided) xs)
-  unfolding rowsAfter
-  rows-are = refl
-
-  has-room : (n : ℕ) → reportedRecorded (recorded-as.Rows n) ≡ recordReport memory decided xs → (hasRoom memory decided xs ≡ true) × (n ≡ rowsAfter memory decided xs)
+  has-room : (n : ℕ) → reportedRecorded (recorded-as.Rows n) ≡ recordReport memory decided news → (hasRoom memory decided news ≡ true) × (n ≡ decided + length news)
   unfolding recordReport
-  has-room n e = go (hasRoom memory decided xs) e
+  has-room n e = go (hasRoom memory decided news) e
     where
-      go : (t : Bool) → Gives (n ∷ []) ≡ cond t (Gives (rowsAfter memory decided xs ∷ [])) (Refuses 5) → (t ≡ true) × (n ≡ rowsAfter memory decided xs)
+      go : (t : Bool) → Gives (n ∷ []) ≡ cond t (Gives ((decided + length news) ∷ [])) (Refuses 5) → (t ≡ true) × (n ≡ decided + length news)
       go true q = (refl, cc)
       go false q = (cc, cc)
 
-  no-room : reportedRecorded recorded-as.Full ≡ recordReport memory decided xs → hasRoom memory decided xs ≡ false
+  no-room : reportedRecorded recorded-as.Full ≡ recordReport memory decided news → hasRoom memory decided news ≡ false
   unfolding recordReport
-  no-room e = go (hasRoom memory decided xs) e
+  no-room e = go (hasRoom memory decided news) e
     where
-      go : (t : Bool) → Refuses 5 ≡ cond t (Gives (rowsAfter memory decided xs ∷ [])) (Refuses 5) → t ≡ false
+      go : (t : Bool) → Refuses 5 ≡ cond t (Gives ((decided + length news) ∷ [])) (Refuses 5) → t ≡ false
       go true q = cc
       go false q = refl
 
-  module _ (last : AuthorRound) where
+  module _ (last : AuthorRound) (r r′ : Recorded) (er : reportedRecorded r ≡ recordReport memory decided news) (q : r ≡ r′) where
     abbrev end : Outcome
     end = settledOf (decisionsOf memory decided) last xs
 
     abbrev report : Report
     report = outcomeReport (length memory / statusWords) decided end
 
-    -- the parts as they were handed over
-    module _ (l : List ℕ) (el : statusesOf l ≡ xs) (r r′ : Recorded) (er : reportedRecorded r ≡ recordReport memory decided (statusesOf l)) (q : r ≡ r′) where
-      recorded-here : reportedRecorded r′ ≡ recordReport memory decided xs
-      recorded-here = ap reportedRecorded (sym q) ∙ er ∙ ap (recordReport memory decided) el
+    recorded-here : reportedRecorded r′ ≡ recordReport memory decided news
+    recorded-here = ap reportedRecorded (sym q) ∙ er
 
-      module _ (n : ℕ) (p : r′ ≡ recorded-as.Rows n) where
-        room : (hasRoom memory decided xs ≡ true) × (n ≡ rowsAfter memory decided xs)
-        room = has-room n (ap reportedRecorded (sym p) ∙ recorded-here)
+    module _ (n : ℕ) (p : r′ ≡ recorded-as.Rows n) where
+      room : (hasRoom memory decided news ≡ true) × (n ≡ decided + length news)
+      room = has-room n (ap reportedRecorded (sym p) ∙ recorded-here)
 
-        fits : leb (decided + length (freshOf (decisionsOf memory decided) xs)) (length memory / statusWords) ≡ true
-        fits = sym room-is ∙ room .0
+      fits : leb (decided + length (freshOf (decisionsOf memory decided) xs)) (length memory / statusWords) ≡ true
+      fits = sym room-is ∙ room .0
 
-        pub settle-given : (g : ℕ) → g ≡ length (cutOf (last .authority .0) (last .round .0) xs) → reportedCommitted (committed.Given g n) ≡ report
-        settle-given g eg = rw (fits, ← eg, ← rows-are, ← room .1) refl
+      rows-are : n ≡ decided + length (freshOf (decisionsOf memory decided) xs)
+      rows-are = room .1 ∙ ap (λ (ys : List LeaderStatus). decided + length ys) en
 
-        pub settle-area : (words : ℕ) (area : List ℕ) → area ≡ areaOf words (cutOf (last .authority .0) (last .round .0) xs) → area ≡ areaBy report end words
-        settle-area words area e = rw fits e
+      pub settle-rows : (g : ℕ) → g ≡ length (cutOf (last .authority .0) (last .round .0) xs) → (words : ℕ) (area : List ℕ) → area ≡ areaOf words (cutOf (last .authority .0) (last .round .0) xs)
+          → (memory′ : List ℕ) → memory′ ≡ memoryAfter memory decided news
+          → (reportedCommitted (committed.Given g n) ≡ report) × ((area ≡ areaBy report end words) × (memory′ ≡ memoryBy report end memory decided))
+      unfolding memoryAfter
+      settle-rows g eg words area ea memory′ em = (
+        rw (fits, ← eg, ← rows-are) refl,
+        (
+          rw fits ea,
+          rw fits (em ∙ ap (λ (t : Bool). cond t (recordedOf memory (decided * statusWords) news) memory) (room .0) ∙ ap (recordedOf memory (decided * statusWords)) en),
+        ),
+      )
 
-        pub settle-memory : (memory′ : List ℕ) → memory′ ≡ memoryAfter memory decided (statusesOf l) → memory′ ≡ memoryBy report end memory decided
-        unfolding memoryAfter
-        settle-memory memory′ e =
-            rw fits
-            (e ∙ ap (λ (ys : List LeaderStatus). cond (hasRoom memory decided ys) (recordedOf memory (decided * statusWords) (freshOf (decisionsOf memory decided) ys)) memory) el
-            ∙ ap (λ (t : Bool). cond t (recordedOf memory (decided * statusWords) (freshOf (decisionsOf memory decided) xs)) memory) (room .0))
+    module _ (p : r′ ≡ recorded-as.Full) where
+      none : hasRoom memory decided news ≡ false
+      none = no-room (ap reportedRecorded (sym p) ∙ recorded-here)
 
-      module _ (p : r′ ≡ recorded-as.Full) where
-        none : hasRoom memory decided xs ≡ false
-        none = no-room (ap reportedRecorded (sym p) ∙ recorded-here)
+      misfit : leb (decided + length (freshOf (decisionsOf memory decided) xs)) (length memory / statusWords) ≡ false
+      misfit = sym room-is ∙ none
 
-        misfit : leb (decided + length (freshOf (decisionsOf memory decided) xs)) (length memory / statusWords) ≡ false
-        misfit = sym room-is ∙ none
+      pub settle-full : (words : ℕ) (area : List ℕ) → area ≡ replicate words 0 → (memory′ : List ℕ) → memory′ ≡ memoryAfter memory decided news
+          → (reportedCommitted (committed.Refused Full) ≡ report) × ((area ≡ areaBy report end words) × (memory′ ≡ memoryBy report end memory decided))
+      unfolding memoryAfter
+      settle-full words area ea memory′ em =
+          (rw misfit refl, (rw misfit ea, rw misfit (em ∙ ap (λ (t : Bool). cond t (recordedOf memory (decided * statusWords) news) memory) none)))
 
-        pub full-given : reportedCommitted (committed.Refused Full) ≡ report
-        full-given = rw misfit refl
-
-        pub full-area : (words : ℕ) (area : List ℕ) → area ≡ replicate words 0 → area ≡ areaBy report end words
-        full-area words area e = rw misfit e
-
-        pub full-memory : (memory′ : List ℕ) → memory′ ≡ memoryAfter memory decided (statusesOf l) → memory′ ≡ memoryBy report end memory decided
-        unfolding memoryAfter
-        full-memory memory′ e =
-            rw misfit
-            (e ∙ ap (λ (ys : List LeaderStatus). cond (hasRoom memory decided ys) (recordedOf memory (decided * statusWords) (freshOf (decisionsOf memory decided) ys)) memory) el
-            ∙ ap (λ (t : Bool). cond t (recordedOf memory (decided * statusWords) (freshOf (decisionsOf memory decided) xs)) memory) none)
+-- the new decisions as the code finds them
+pub news-here : (sorted : Bool) (memory order : List ℕ) (decided : ℕ) (l : List ℕ) (xs : List LeaderStatus) → SortedIf sorted order (take (decided * statusWords) memory) → statusesOf l ≡ xs
+    → newsBy sorted order memory decided (statusesOf l) ≡ freshOf (decisionsOf memory decided) xs
+news-here sorted memory order decided l xs g e = sorted-news sorted memory order decided g (statusesOf l) ∙ ap (freshOf (decisionsOf memory decided)) e
 
 -- ---- the highest round
 highest-low : (blocks : List ℕ) (n : ℕ) → ((row : ℕ) → row < n → fieldOf blocks row 1 < roundLimit) → highestOf blocks everyRow n < roundLimit
@@ -265,22 +260,6 @@ begins n m k r first e h l =
     let u : first + k * statusWords ≡ n = rw e at h in
     omega arith
 
--- ---- what is cleared has the length that it had
-module _ (s : Store) (stakes : List ℕ) (floor : ℕ) (o : UniversalCommitterOptions) (size : ℕ) (memory : List ℕ) (decided : ℕ) (last : AuthorRound) (threshold words words′ bytes bytes′ : ℕ)
-    (ew : words ≡ words′) (eb : bytes ≡ bytes′) where
-  pub report-sizes : (r : Committed) → reportedCommitted r ≡ commitReport s stakes floor o size memory decided last threshold words bytes
-      → reportedCommitted r ≡ commitReport s stakes floor o size memory decided last threshold words′ bytes′
-  report-sizes r e = rw (← ew, ← eb) e
-
-  pub area-sizes : (area : List ℕ) → area ≡ areaBy (commitReport s stakes floor o size memory decided last threshold words bytes) (outcomeIn s stakes floor o size (decisionsOf memory decided) last threshold) words
-      → area ≡ areaBy (commitReport s stakes floor o size memory decided last threshold words′ bytes′) (outcomeIn s stakes floor o size (decisionsOf memory decided) last threshold) words′
-  area-sizes area e = rw (← ew, ← eb) e
-
-  pub memory-sizes : (memory′ : List ℕ)
-      → memory′ ≡ memoryBy (commitReport s stakes floor o size memory decided last threshold words bytes) (outcomeIn s stakes floor o size (decisionsOf memory decided) last threshold) memory decided
-      → memory′ ≡ memoryBy (commitReport s stakes floor o size memory decided last threshold words′ bytes′) (outcomeIn s stakes floor o size (decisionsOf memory decided) last threshold) memory decided
-  memory-sizes memory′ e = rw (← ew, ← eb) e
-
 -- ---- the whole call
 module _ (c : Committee) (o : UniversalCommitterOptions) (s : Store) (memory : List ℕ) (decided : ℕ) (last : AuthorRound) (threshold words : ℕ) where
   abbrev test : Report
@@ -315,24 +294,28 @@ module _ (c : Committee) (o : UniversalCommitterOptions) (s : Store) (memory : L
         high = leb-true threshold roundLimit (both-right (ltb (last .round .0) roundLimit) _ b);
       }
 
-  module _ (bytes : ℕ) where
+  -- what is cleared has the length that it had
+  module _ (bytes words′ bytes′ : ℕ) (ew : words′ ≡ words) (eb : bytes′ ≡ bytes) (v : Verdict) (ev : reportedVerdict v ≡ commitTest c o s memory decided last threshold words′) where
     abbrev Ends : Committed → List ℕ → List ℕ → Type 0
     Ends r area memory′ =
         (reportedCommitted r ≡ commitAnswer c o s memory decided last threshold words bytes)
         × ((area ≡ commitArea c o s memory decided last threshold words bytes) × (memory′ ≡ commitMemory c o s memory decided last threshold words bytes))
 
-    pub ends-refused : (v : Verdict) (n : Refusal) → reportedVerdict v ≡ test → v ≡ verdict.Refused n → (area : List ℕ) → area ≡ replicate words 0 → Ends (committed.Refused n) area memory
+    test-is : (v′ : Verdict) → v ≡ v′ → test ≡ reportedVerdict v′
+    test-is v′ p = sym (ap reportedVerdict (sym p) ∙ ev ∙ ap (commitTest c o s memory decided last threshold) ew)
+
+    pub ends-refused : (n : Refusal) → v ≡ verdict.Refused n → (area : List ℕ) → area ≡ replicate words 0 → Ends (committed.Refused n) area memory
     unfolding commitAnswer commitArea commitMemory
-    ends-refused v n ev p area z =
-        let e : test ≡ Refuses (numberOf n) = sym ev ∙ ap reportedVerdict p in
+    ends-refused n p area z =
+        let e : test ≡ Refuses (numberOf n) = test-is (verdict.Refused n) p in
         (rw e refl, (rw e z, rw e refl))
 
-    pub ends-committed : (v : Verdict) → reportedVerdict v ≡ test → v ≡ verdict.Done → (stakes : List ℕ) → stakes ≡ stakeWords c → (r : Committed) (area memory′ : List ℕ)
-        → reportedCommitted r ≡ commitReport s stakes (c .quorum .0) o (c .size) memory decided last threshold words bytes
-        → area ≡ areaBy (commitReport s stakes (c .quorum .0) o (c .size) memory decided last threshold words bytes) (outcomeIn s stakes (c .quorum .0) o (c .size) (decisionsOf memory decided) last threshold) words
-        → memory′ ≡ memoryBy (commitReport s stakes (c .quorum .0) o (c .size) memory decided last threshold words bytes) (outcomeIn s stakes (c .quorum .0) o (c .size) (decisionsOf memory decided) last threshold) memory decided
+    pub ends-committed : v ≡ verdict.Done → (stakes : List ℕ) → stakes ≡ stakeWords c → (r : Committed) (area memory′ : List ℕ)
+        → reportedCommitted r ≡ commitReport s stakes (c .quorum .0) o (c .size) memory decided last threshold words′ bytes′
+        → area ≡ areaBy (commitReport s stakes (c .quorum .0) o (c .size) memory decided last threshold words′ bytes′) (outcomeIn s stakes (c .quorum .0) o (c .size) (decisionsOf memory decided) last threshold) words′
+        → memory′ ≡ memoryBy (commitReport s stakes (c .quorum .0) o (c .size) memory decided last threshold words′ bytes′) (outcomeIn s stakes (c .quorum .0) o (c .size) (decisionsOf memory decided) last threshold) memory decided
         → Ends r area memory′
     unfolding commitAnswer commitArea commitMemory commitOutcome
-    ends-committed v ev p stakes es r area memory′ er ea em =
-        let e : test ≡ Gives [] = sym ev ∙ ap reportedVerdict p in
-        (rw (e, ← es) er, (rw (e, ← es) ea, rw (e, ← es) em))
+    ends-committed p stakes es r area memory′ er ea em =
+        let e : test ≡ Gives [] = test-is verdict.Done p in
+        (rw (e, ← es, ← ew, ← eb) er, (rw (e, ← es, ← ew, ← eb) ea, rw (e, ← es, ← ew, ← eb) em))

@@ -4,7 +4,7 @@ use lib.ListN.{length}
 use mathlib.Core.Bool.{Bool, true, false}
 use mathlib.Core.List.{[], _∷_}
 use mathlib.Core.Path.{_≡_, refl}
-use Rattle.base_committer.specs.Decide.{leaderBlocks, blamed, canSkipLeader, enoughLeaderSupport, isSkipped, tryDirectDecide, potentialCertificates, certifiedFrom, decideLeaderFromAnchor, tryIndirectDecide}
+use Rattle.base_committer.specs.Decide.{isBy, leaderBlocks, blamed, canSkipLeader, enoughLeaderSupport, isSkipped, tryDirectDecide, potentialCertificates, certifiedBy, certifiedFrom, decideLeaderFromAnchor, tryIndirectDecide}
 use Rattle.base_committer.specs.Waves.{waveNumber, leaderRound, decisionRound, votingRound, anchorRound, electLeader}
 use Rattle.block_store.specs.Store.{Store, storeOf, fieldOf, includesOf, isAt}
 use Rattle.commit_walk.specs.Cut.{keptOf, cutOf}
@@ -13,9 +13,10 @@ use Rattle.commit_walk.specs.Walk.{walk}
 use Rattle.committee.specs.Aggregators.{stakeWhere}
 use Rattle.consensus.specs.Statuses.{at}
 use Rattle.consensus.specs.declared.status.LeaderStatus.the-variants.{Commit}
+use Rattle.index.specs.Rounds.{roundIs}
 use Rattle.linked.specs.Linked.{ofRound, parentOf, lower, parentsAt, linked, linkedIn}
 use Rattle.store_queries.specs.Rows.{highestOf}
-use Rattle.support.specs.Quorums.{stakeOf, quorumOf, isVote, isCertificate, inRound, quorumIn}
+use Rattle.support.specs.Quorums.{stakeOf, quorumOf, isVote, isCertificate, roundRows, quorumIn}
 use Rattle.support.specs.Support.{askInclude, supportBy, findSupport}
 use Rattle.types.specs.Below.{sumBelow, rowsBelow, anyBelow}
 use Rattle.universal_committer.specs.Calls.{roomFits, given, outcomeIn}
@@ -63,12 +64,12 @@ chain n = storeOf
 
 -- five blocks, the clock at 5: round 1 is committed, after round 0; both are remembered, the higher first
 first-commit : outcomeIn (chain 5) (1 ∷ []) 0 (options 4 1 true) 1 [] (at 0 0) 5 ≡ given (Commit (at 0 1) 1 ∷ []) (Commit (at 0 1) 1 ∷ Commit (at 0 0) 0 ∷ [])
-unfolding chain outcomeIn walk examinedSeats seatsWithin seatsBelow committers electedBy committerOf electLeader leaderRound waveNumber highestOf rulesOf ruledOf tryDirectDecide isSkipped canSkipLeader quorumIn quorumOf stakeOf stakeWhere sumBelow inRound isVote findSupport supportBy askInclude isAt fieldOf includesOf isCertificate leaderBlocks blamed enoughLeaderSupport rowsBelow decisionRound votingRound anchorRound tryIndirectDecide linkedIn linked parentsAt lower ofRound parentOf anyBelow potentialCertificates certifiedFrom decideLeaderFromAnchor cutOf keptOf isOf
+unfolding chain outcomeIn walk examinedSeats seatsWithin seatsBelow committers electedBy committerOf electLeader leaderRound waveNumber highestOf rulesOf ruledOf tryDirectDecide isSkipped canSkipLeader quorumIn quorumOf stakeOf stakeWhere sumBelow roundRows roundIs isVote findSupport supportBy askInclude isAt fieldOf includesOf isCertificate isBy leaderBlocks blamed enoughLeaderSupport rowsBelow decisionRound votingRound anchorRound tryIndirectDecide linkedIn linked parentsAt lower ofRound parentOf anyBelow potentialCertificates certifiedBy certifiedFrom decideLeaderFromAnchor cutOf keptOf isOf
 first-commit = refl
 
 -- six blocks, the clock at 6, round 1 the last decided
 second-commit : outcomeIn (chain 6) (1 ∷ []) 0 (options 4 1 true) 1 (Commit (at 0 1) 1 ∷ Commit (at 0 0) 0 ∷ []) (at 0 1) 6 ≡ given (Commit (at 0 2) 2 ∷ []) (Commit (at 0 2) 2 ∷ [])
-unfolding chain outcomeIn walk examinedSeats seatsWithin seatsBelow committers electedBy committerOf electLeader leaderRound waveNumber highestOf rulesOf ruledOf tryDirectDecide isSkipped canSkipLeader quorumIn quorumOf stakeOf stakeWhere sumBelow inRound isVote findSupport supportBy askInclude isAt fieldOf includesOf isCertificate leaderBlocks blamed enoughLeaderSupport rowsBelow decisionRound votingRound anchorRound tryIndirectDecide linkedIn linked parentsAt lower ofRound parentOf anyBelow potentialCertificates certifiedFrom decideLeaderFromAnchor cutOf keptOf isOf
+unfolding chain outcomeIn walk examinedSeats seatsWithin seatsBelow committers electedBy committerOf electLeader leaderRound waveNumber highestOf rulesOf ruledOf tryDirectDecide isSkipped canSkipLeader quorumIn quorumOf stakeOf stakeWhere sumBelow roundRows roundIs isVote findSupport supportBy askInclude isAt fieldOf includesOf isCertificate isBy leaderBlocks blamed enoughLeaderSupport rowsBelow decisionRound votingRound anchorRound tryIndirectDecide linkedIn linked parentsAt lower ofRound parentOf anyBelow potentialCertificates certifiedBy certifiedFrom decideLeaderFromAnchor cutOf keptOf isOf
 second-commit = refl
 
 -- two leaders and one row: no room; two rows: room

@@ -4,6 +4,7 @@ pub mod Distinctness
 pub mod Counting
 pub mod Walking
 pub mod Placing
+pub mod Ordered
 pub mod Calling
 pub mod Committing
 pub mod Laws

@@ -18,7 +18,7 @@ use Rattle.commit_walk.specs.Walk.{Seat, is}
 use Rattle.consensus.specs.Statuses.{at}
 use Rattle.consensus.specs.declared.status.LeaderStatus.{LeaderStatus}
 use Rattle.consensus.specs.declared.status.LeaderStatus.the-variants.{Commit, Skip, Undecided}
-use Rattle.support.specs.Quorums.{keep}
+use Rattle.support.specs.Quorums.{keep, roundRows}
 use Rattle.universal_committer.specs.Options.{committerOf}
 use Rattle.universal_committer.specs.Rules.{isRuled, ruledOf, ruledBy, rulesOf}
 use Rattle.universal_committer.specs.declared.options.UniversalCommitterOptions.{UniversalCommitterOptions}
@@ -34,31 +34,31 @@ pop-placed a r other [] h = h
 pop-placed a r other (row ∷ []) h = of-is a r (Commit (at a r) row) refl refl
 pop-placed a r other (row ∷ (next ∷ rest)) h = tt
 
-direct-placed : (s : Store) (stakes : List ℕ) (floor : ℕ) (b : BaseCommitterOptions) (a r : ℕ) → Placed a r (tryDirectDecide s stakes floor b a r)
+direct-placed : (s : Store) (stakes : List ℕ) (floor : ℕ) (b : BaseCommitterOptions) (a r : ℕ) → Placed a r (tryDirectDecide s (roundRows s) stakes floor b a r)
 unfolding tryDirectDecide
-direct-placed s stakes floor b a r = go (isSkipped s stakes floor b a r)
+direct-placed s stakes floor b a r = go (isSkipped s (roundRows s) stakes floor b a r)
   where
-    go : (t : Bool) → Placed a r (cond t (Decided (Skip (at a r))) (popOr (Undecided (at a r)) (at a r) (keep (enoughLeaderSupport s stakes floor (decisionRound b (waveNumber b r))) (leaderBlocks (s .blocks) (s .count) a r))))
+    go : (t : Bool) → Placed a r (cond t (Decided (Skip (at a r))) (popOr (Undecided (at a r)) (at a r) (keep (enoughLeaderSupport s (roundRows s) stakes floor (decisionRound b (waveNumber b r))) (leaderBlocks (s .blocks) a (roundRows s r)))))
     go true = of-is a r (Skip (at a r)) refl refl
-    go false = pop-placed a r (Undecided (at a r)) (keep (enoughLeaderSupport s stakes floor (decisionRound b (waveNumber b r))) (leaderBlocks (s .blocks) (s .count) a r)) (of-is a r (Undecided (at a r)) refl refl)
+    go false = pop-placed a r (Undecided (at a r)) (keep (enoughLeaderSupport s (roundRows s) stakes floor (decisionRound b (waveNumber b r))) (leaderBlocks (s .blocks) a (roundRows s r))) (of-is a r (Undecided (at a r)) refl refl)
 
-anchor-placed : (s : Store) (linked : ℕ → ℕ → Bool) (stakes : List ℕ) (floor : ℕ) (b : BaseCommitterOptions) (a r : ℕ) (k : Anchor) → Placed a r (fromAnchor s linked stakes floor b a r k)
+anchor-placed : (s : Store) (linked : ℕ → ℕ → Bool) (stakes : List ℕ) (floor : ℕ) (b : BaseCommitterOptions) (a r : ℕ) (k : Anchor) → Placed a r (fromAnchor s (roundRows s) linked stakes floor b a r k)
 unfolding decideLeaderFromAnchor
 anchor-placed s linked stakes floor b a r (At anchor) =
-    pop-placed a r (Skip (at a r)) (keep (certifiedFrom s linked stakes floor (decisionRound b (waveNumber b r)) anchor) (leaderBlocks (s .blocks) (s .count) a r)) (of-is a r (Skip (at a r)) refl refl)
+    pop-placed a r (Skip (at a r)) (keep (certifiedFrom s (roundRows s) linked stakes floor (decisionRound b (waveNumber b r)) anchor) (leaderBlocks (s .blocks) a (roundRows s r))) (of-is a r (Skip (at a r)) refl refl)
 anchor-placed s linked stakes floor b a r Nothing = of-is a r (Undecided (at a r)) refl refl
 
 indirect-placed : (s : Store) (linked : ℕ → ℕ → Bool) (stakes : List ℕ) (floor : ℕ) (b : BaseCommitterOptions) (a r : ℕ) (later : List LeaderStatus)
-    → Placed a r (tryIndirectDecide s linked stakes floor b a r later)
+    → Placed a r (tryIndirectDecide s (roundRows s) linked stakes floor b a r later)
 unfolding tryIndirectDecide
 indirect-placed s linked stakes floor b a r later = anchor-placed s linked stakes floor b a r (anchorOf (anchorRound b r) later)
 
 ruled-placed : (s : Store) (linked : ℕ → ℕ → Bool) (stakes : List ℕ) (floor : ℕ) (b : BaseCommitterOptions) (a r : ℕ) (later : List LeaderStatus)
     → Placed a r (ruledOf s linked stakes floor b a r later)
 unfolding ruledOf
-ruled-placed s linked stakes floor b a r later = go (isRuled (tryDirectDecide s stakes floor b a r))
+ruled-placed s linked stakes floor b a r later = go (isRuled (tryDirectDecide s (roundRows s) stakes floor b a r))
   where
-    go : (t : Bool) → Placed a r (cond t (tryDirectDecide s stakes floor b a r) (tryIndirectDecide s linked stakes floor b a r later))
+    go : (t : Bool) → Placed a r (cond t (tryDirectDecide s (roundRows s) stakes floor b a r) (tryIndirectDecide s (roundRows s) linked stakes floor b a r later))
     go true = direct-placed s stakes floor b a r
     go false = indirect-placed s linked stakes floor b a r later
 

@@ -10,6 +10,7 @@ use native.Mathlib.Nat.{le-refl}
 use native.Mathlib.Omega.{arith}
 use Rattle.base_committer.proofs.Decisions.{reportedDecision-one}
 use Rattle.base_committer.proofs.Elections.{reportedElected-one}
+use Rattle.base_committer.proofs.Rows.{direct-same, indirect-same, indexed-rows}
 use Rattle.base_committer.specs.Decide.{tryDirectDecide, tryIndirectDecide, directReport, indirectReport}
 use Rattle.base_committer.specs.Only.{reportedDecision}
 use Rattle.base_committer.specs.Waves.{electLeader, reportedElected, electedReport}
@@ -19,16 +20,20 @@ use Rattle.base_committer.specs.declared.options.BaseCommitterOptions.{BaseComm
 use Rattle.base_committer.specs.declared.waves.Elected.{Elected}
 use Rattle.base_committer.specs.declared.waves.Elected.the-variants.{Leader, Nobody}
 use Rattle.block_store.specs.Store.{Store}
-use Rattle.commit_walk.proofs.Recalling.{reportedRecalled-one}
+use Rattle.commit_walk.proofs.Halving.{sorted-is}
 use Rattle.commit_walk.specs.Memory.{recall}
-use Rattle.commit_walk.specs.Rows.{reportedRecalled, recallReport}
+use Rattle.commit_walk.specs.Rows.{recallBy, SortedIf}
 use Rattle.commit_walk.specs.Walk.{Seat, Ruled, is, twice, Examined, seen, two, foundOr, pushed, examine}
 use Rattle.commit_walk.specs.declared.parts.Recalled.{Recalled}
 use Rattle.commit_walk.specs.declared.parts.Recalled.the-variants.{Known, Unknown}
 use Rattle.consensus.proofs.Statuses.{put-length, put-front}
 use Rattle.consensus.specs.Statuses.{statusWords, statusesOf, putOf}
 use Rattle.consensus.specs.declared.status.LeaderStatus.{LeaderStatus}
+use Rattle.index.specs.Keys.{referenceKey}
+use Rattle.index.specs.Rounds.{rowsOfRound}
+use Rattle.index.specs.Search.{Indexed}
 use Rattle.linked.specs.Linked.{linkedIn}
+use Rattle.support.specs.Quorums.{roundRows}
 use Rattle.types.specs.declared.AuthorityIndex.{AuthorityIndex}
 use Rattle.types.specs.declared.refusal.Refusal.{Refusal}
 use Rattle.universal_committer.specs.Options.{committers, committerOf}
@@ -38,26 +43,33 @@ use Rattle.universal_committer.specs.declared.options.UniversalCommitter
 use Rattle.universal_committer.specs.declared.walk.Walked.{Walked}
 use Rattle.universal_committer.specs.declared.walk.Walked.the-variants as walked
 
--- ---- one leader
-module _ (s : Store) (linked : ℕ → ℕ → Bool) (stakes : List ℕ) (floor : ℕ) (b : BaseCommitterOptions) (a r : ℕ) (later : List LeaderStatus)
-    (d : Decision) (ed : reportedDecision d ≡ directReport s stakes floor b a r) (t : Bool) (et : t ≡ isRuled d) where
-  direct-is : d ≡ tryDirectDecide s stakes floor b a r
-  direct-is = reportedDecision-one d (tryDirectDecide s stakes floor b a r) ed
+-- ---- one leader: on an ordered index the rules see the rows of the table
+module _ (s : Store) (order : List ℕ) (ix : Indexed (referenceKey (s .blocks)) (s .count) order) (linked : ℕ → ℕ → Bool) (stakes : List ℕ) (floor : ℕ) (b : BaseCommitterOptions) (a r : ℕ)
+    (later : List LeaderStatus) where
+  abbrev rows : ℕ → List ℕ
+  rows = rowsOfRound (s .blocks) order (s .count)
 
-  pub ruled-direct : t ≡ true → d ≡ ruledOf s linked stakes floor b a r later
-  unfolding ruledOf
-  ruled-direct e = rw (← direct-is, ← et, e) refl
+  module _ (d : Decision) (ed : reportedDecision d ≡ directReport s rows stakes floor b a r) (t : Bool) (et : t ≡ isRuled d) where
+    direct-is : d ≡ tryDirectDecide s (roundRows s) stakes floor b a r
+    direct-is = reportedDecision-one d (tryDirectDecide s rows stakes floor b a r) ed ∙ direct-same s rows (roundRows s) (indexed-rows s order ix) stakes floor b a r
 
-  pub ruled-indirect : (n : Decision) → t ≡ false → reportedDecision n ≡ indirectReport s linked stakes floor b a r later → n ≡ ruledOf s linked stakes floor b a r later
-  unfolding ruledOf
-  ruled-indirect n e en = rw (← direct-is, ← et, e) (reportedDecision-one n (tryIndirectDecide s linked stakes floor b a r later) en)
+    pub ruled-direct : t ≡ true → d ≡ ruledOf s linked stakes floor b a r later
+    unfolding ruledOf
+    ruled-direct e = rw (← direct-is, ← et, e) refl
 
-pub found-is : (s : Store) (linked : ℕ → ℕ → Bool) (stakes : List ℕ) (floor : ℕ) (memory : List LeaderStatus) (b : BaseCommitterOptions) (a r : ℕ) (later : List LeaderStatus)
-    (k k′ : Recalled) → reportedRecalled k ≡ recallReport a r memory → k ≡ k′ → (d : Decision) → d ≡ ruledOf s linked stakes floor b a r later
-    → recalledOr k′ d ≡ foundOf s linked stakes floor memory b a r later
-unfolding foundOf recallReport
-found-is s linked stakes floor memory b a r later k k′ ek q d ed =
-    let h : k′ ≡ recall a r memory = sym q ∙ reportedRecalled-one k (recall a r memory) ek in
+    pub ruled-indirect : (n : Decision) → t ≡ false → reportedDecision n ≡ indirectReport s rows linked stakes floor b a r later → n ≡ ruledOf s linked stakes floor b a r later
+    unfolding ruledOf
+    ruled-indirect n e en =
+        rw (← direct-is, ← et, e)
+        (reportedDecision-one n (tryIndirectDecide s rows linked stakes floor b a r later) en
+        ∙ indirect-same s rows (roundRows s) (indexed-rows s order ix) linked stakes floor b a r later)
+
+pub found-is : (s : Store) (linked : ℕ → ℕ → Bool) (stakes : List ℕ) (floor : ℕ) (sorted : Bool) (memory order : List ℕ) → SortedIf sorted order memory
+    → (b : BaseCommitterOptions) (a r : ℕ) (later : List LeaderStatus) (k k′ : Recalled) → k ≡ recallBy sorted order memory a r → k ≡ k′
+    → (d : Decision) → d ≡ ruledOf s linked stakes floor b a r later → recalledOr k′ d ≡ foundOf s linked stakes floor (statusesOf memory) b a r later
+unfolding foundOf
+found-is s linked stakes floor sorted memory order g b a r later k k′ ek q d ed =
+    let h : k′ ≡ recall a r (statusesOf memory) = sym q ∙ ek ∙ sorted-is sorted memory order g a r in
     rw (ed, h) refl
 
 ruled-found : (k : Recalled) (d : Decision) → foundOr k (ruledBy d) ≡ ruledBy (recalledOr k d)

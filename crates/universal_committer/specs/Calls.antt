@@ -16,9 +16,11 @@ use Rattle.committee.specs.declared.Committee.{Committee}
 use Rattle.consensus.specs.Sound.{soundMemory}
 use Rattle.consensus.specs.Statuses.{statusWords}
 use Rattle.consensus.specs.declared.status.LeaderStatus.{LeaderStatus}
+use Rattle.index.specs.Keys.{referenceKey, positionKey}
+use Rattle.index.specs.Search.{Indexed}
 use Rattle.linked.specs.Linked.{linkedIn}
 use Rattle.store_queries.specs.Rows.{everyRow, highestOf}
-use Rattle.types.specs.Limits.{roundLimit, maxAuthorities}
+use Rattle.types.specs.Limits.{roundLimit, maxAuthorities, maxBlocks}
 use Rattle.types.specs.Reports.{Report, Gives, Refuses, numberOf, done}
 use Rattle.types.specs.declared.reference.AuthorRound.{AuthorRound}
 use Rattle.universal_committer.specs.Options.{SoundOptions, soundOptions}
@@ -152,6 +154,15 @@ reportedCommitted (committed.Given n rows) = Gives (n ∷ rows ∷ [])
 reportedCommitted (committed.Refused n) = Refuses (numberOf n)
 
 -- ---- as the code comes to it
+
+-- areas of these lengths have room for the rows of any table that is sound
+abbrev pub RoomFor : ℕ → ℕ → ℕ → Type 0
+RoomFor stored rows work = stored ≤ maxBlocks → (stored ≤ rows) × (stored ≤ work)
+
+-- the stored rows are in order, and so are the rows of the memory where they are said to be
+pub record InOrder (s : Store) (order memory : List ℕ) (decided : ℕ) (sorted : Bool) (places : List ℕ) : Type 0 where
+  pub stored-rows : Indexed (referenceKey (s .blocks)) (s .count) order
+  pub decisions : sorted ≡ true → Indexed (positionKey memory) decided places
 
 -- what the first tests have shown
 pub record Tested (o : UniversalCommitterOptions) (size : ℕ) (s : Store) (memory : List ℕ) (decided : ℕ) (last : AuthorRound) (threshold : ℕ) : Type 0 where

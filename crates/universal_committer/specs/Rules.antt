@@ -15,6 +15,7 @@ use Rattle.commit_walk.specs.declared.parts.Recalled.{Recalled}
 use Rattle.commit_walk.specs.declared.parts.Recalled.the-variants.{Known, Unknown}
 use Rattle.consensus.specs.Statuses.{statusWords, statusesOf, isDecided}
 use Rattle.consensus.specs.declared.status.LeaderStatus.{LeaderStatus}
+use Rattle.support.specs.Quorums.{roundRows}
 use Rattle.universal_committer.specs.Options.{committerOf}
 use Rattle.universal_committer.specs.declared.options.UniversalCommitterOptions.{UniversalCommitterOptions}
 use Rattle.universal_committer.specs.declared.walk.Walked.{Walked}
@@ -28,8 +29,8 @@ isRuled (Refused n) = true
 -- "If we can't directly decide the leader, try to indirectly decide it": `later` are the statuses of the leaders after it
 unfoldable pub ruledOf : Store → (ℕ → ℕ → Bool) → List ℕ → ℕ → BaseCommitterOptions → ℕ → ℕ → List LeaderStatus → Decision
 ruledOf s linked stakes floor base authority round later =
-    cond (isRuled (tryDirectDecide s stakes floor base authority round)) (tryDirectDecide s stakes floor base authority round)
-    (tryIndirectDecide s linked stakes floor base authority round later)
+    cond (isRuled (tryDirectDecide s (roundRows s) stakes floor base authority round)) (tryDirectDecide s (roundRows s) stakes floor base authority round)
+    (tryIndirectDecide s (roundRows s) linked stakes floor base authority round later)
 
 -- the only refusal of the rules is that more than one block is certified
 abbrev pub ruledBy : Decision → Ruled

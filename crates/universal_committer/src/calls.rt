@@ -1,41 +1,29 @@
 // The calls: universal_committer.rs, get_leaders and try_commit. Each tests what it is given in document 01's order.
 use crate::UniversalCommitterOptions;
-use crate::counts::leaders_examined;
-use crate::counts::rounds_examined;
 use crate::options::committer;
 use crate::options::committer_count;
-use crate::walk::Walked;
-use crate::walk::examine_rounds;
+use crate::outcome::commit;
+use crate::sound::tested;
 use base_committer::Elected;
 use base_committer::parts::elected;
-use block_store::sound::store_is_sound;
-use commit_walk::parts::Recorded;
-use commit_walk::parts::cut;
-use commit_walk::parts::record;
+use block_store::sound::MAX_BLOCKS;
 use committee::Committee;
 use committee::parts::is_sound;
 use committee::parts::stake_words;
-use consensus::parts::STATUS_WORDS;
-use consensus::sound::memory_is_sound;
-use store_queries::filter::Filter;
-use store_queries::parts::highest;
+use consensus::sound::has_room;
 use types::AuthorRound;
 use types::ROUND_LIMIT;
 use types::Refusal;
 use types::RoundNumber;
-use types::Stake;
 use types::Verdict;
 use types::words::clear;
 use types::words::clear_bytes;
 ghost use mathlib.Core.Path.{_≡_};
-ghost use Prim.Native.Nat.{_/_, _^_, _≤_, _<_};
-ghost use lib.ListN.{length, replicate, drop};
-ghost use Rattle.types.specs.Reports.{reportedVerdict};
+ghost use Prim.Native.Nat.{_≤_};
+ghost use lib.ListN.{length, replicate};
 ghost use Rattle.block_store.specs.Store.{storeOf};
-ghost use Rattle.consensus.specs.Statuses.{statusWords, statusesOf};
-ghost use Rattle.commit_walk.specs.Rows.{decisionsOf};
 ghost use Rattle.universal_committer.specs.Options.{SoundOptions};
-ghost use Rattle.universal_committer.specs.Calls.{reportedLeaders, leadersReport, leadersArea, leadersAnswer, filledBy, reportedCommitted, tablesFit, argumentsFit, commitTest, Tested, settledOf, outcomeReport, areaBy, memoryBy, outcomeIn, commitReport, commitAnswer, commitArea, commitMemory};
+ghost use Rattle.universal_committer.specs.Calls.{reportedLeaders, leadersReport, leadersArea, leadersAnswer, filledBy, reportedCommitted, RoomFor, commitAnswer, commitArea, commitMemory};
 
 // How many leaders a round has, or the refusal.
 pub enum Leaders {
@@ -103,113 +91,83 @@ pub fn get_leaders(
     fill_leaders(options, committee.size, round, area)
 }
 
-// Whether the tables and the memory are sound, and the answer area of `words` words has whole rows.
-fn tables_fit(
-    size: u64,
-    blocks: &[u64],
-    includes: &[u64],
-    stored: usize,
-    memory: &[u64],
-    decided: usize,
-    words: usize,
-) -> bool
-    ensures { λ r. ⌜ r ≡ tablesFit size (storeOf (now (blocks .entry)) (now (includes .entry)) stored) (now (memory .entry)) decided words ⌝ }
-{
-    if !store_is_sound(size, blocks, includes, stored) {
-        return false;
-    }
-    if !memory_is_sound(size, blocks, stored, memory, decided) {
-        return false;
-    }
-    words % STATUS_WORDS == 0
-}
-
-// Whether the last decided position and the threshold round are in range.
-fn arguments_fit(size: u64, last: AuthorRound, threshold: RoundNumber) -> bool
-    ensures { λ r. ⌜ r ≡ argumentsFit size last (threshold .0) ⌝ }
-{
-    if size <= last.authority.0 {
-        return false;
-    }
-    if ROUND_LIMIT <= last.round.0 {
-        return false;
-    }
-    threshold.0 <= ROUND_LIMIT
-}
-
-// The tests that come before the room: committee, options, tables, arguments.
-fn tested(
+// try_commit by way of areas that have room for the stored rows in order.
+fn commit_by(
     committee: Committee,
     options: UniversalCommitterOptions,
     blocks: &[u64],
     includes: &[u64],
     stored: usize,
-    memory: &[u64],
+    memory: &mut [u64],
     decided: usize,
     last: AuthorRound,
     threshold: RoundNumber,
-    words: usize,
-) -> Verdict
-    ensures { λ r. ⌜ reportedVerdict r ≡ commitTest committee options (storeOf (now (blocks .entry)) (now (includes .entry)) stored) (now (memory .entry)) decided last (threshold .0) words ⌝ }
+    area: &mut [u64],
+    work: &mut [u8],
+    order: &mut [u16],
+    places: &mut [u16],
+    spare: &mut [u16],
+) -> Committed
+    requires { ⌜ RoomFor stored (length (now order)) (length (now spare)) ⌝ }
+    ensures { λ r. ⌜ reportedCommitted r ≡ commitAnswer committee options (storeOf (now (blocks .entry)) (now (includes .entry)) stored) (now (memory .entry)) decided last (threshold .0) (length (now (area .entry))) (length (now (work .entry))) ⌝ }
+    ensures filled { λ _. ⌜ now (area .exit) ≡ commitArea committee options (storeOf (now (blocks .entry)) (now (includes .entry)) stored) (now (memory .entry)) decided last (threshold .0) (length (now (area .entry))) (length (now (work .entry))) ⌝ }
+    ensures remembers { λ _. ⌜ now (memory .exit) ≡ commitMemory committee options (storeOf (now (blocks .entry)) (now (includes .entry)) stored) (now (memory .entry)) decided last (threshold .0) (length (now (area .entry))) (length (now (work .entry))) ⌝ }
+    ensures zeroed { λ _. ⌜ now (work .exit) ≡ replicate (length (now (work .entry))) 0 ⌝ }
 {
-    if !is_sound(committee) {
-        return Verdict::Refused(Refusal::BadCommittee);
-    }
-    if !options.are_sound(committee.size) {
-        return Verdict::Refused(Refusal::BadOptions);
-    }
-    if !tables_fit(
-        committee.size,
+    clear(area);
+    clear_bytes(work);
+    let words = area.len();
+    let sorted = has_room(decided, places.len(), spare.len());
+    let verdict = tested(
+        committee,
+        options,
         blocks,
         includes,
         stored,
-        memory,
+        &memory[..],
         decided,
+        last,
+        threshold,
         words,
-    ) {
-        return Verdict::Refused(Refusal::BadTable);
-    }
-    if !arguments_fit(committee.size, last, threshold) {
-        return Verdict::Refused(Refusal::BadArgument);
-    }
-    Verdict::Done
-}
-
-// Records the new decisions among the statuses that stand in the area from `first` on, and cuts; where the memory has no room, neither.
-fn settle(
-    memory: &mut [u64],
-    decided: usize,
-    area: &mut [u64],
-    first: usize,
-    last: AuthorRound,
-) -> Committed
-    requires { ⌜ first ≤ length (now area) ⌝ }
-    ensures { λ r. ⌜ reportedCommitted r ≡ outcomeReport (length (now (memory .entry)) / statusWords) decided (settledOf (decisionsOf (now (memory .entry)) decided) last (statusesOf (drop first (now (area .entry))))) ⌝ }
-    ensures filled { λ _. ⌜ now (area .exit) ≡ areaBy (outcomeReport (length (now (memory .entry)) / statusWords) decided (settledOf (decisionsOf (now (memory .entry)) decided) last (statusesOf (drop first (now (area .entry)))))) (settledOf (decisionsOf (now (memory .entry)) decided) last (statusesOf (drop first (now (area .entry))))) (length (now (area .entry))) ⌝ }
-    ensures remembers { λ _. ⌜ now (memory .exit) ≡ memoryBy (outcomeReport (length (now (memory .entry)) / statusWords) decided (settledOf (decisionsOf (now (memory .entry)) decided) last (statusesOf (drop first (now (area .entry)))))) (settledOf (decisionsOf (now (memory .entry)) decided) last (statusesOf (drop first (now (area .entry))))) (now (memory .entry)) decided ⌝ }
-{
-    let recorded = record(memory, decided, &area[first..]);
-    match recorded {
-        Recorded::Rows(rows) => {
-            let given = cut(area, first, last);
-            Committed::Given(given, rows)
-        }
-        Recorded::Full => {
-            clear(area);
-            Committed::Refused(Refusal::Full)
+        order,
+        places,
+        spare,
+    );
+    match verdict {
+        Verdict::Refused(n) => Committed::Refused(n),
+        Verdict::Done => {
+            let stakes = stake_words(committee);
+            let floor = committee.quorum;
+            let size = committee.size;
+            commit(
+                blocks,
+                includes,
+                stored,
+                order,
+                &stakes,
+                floor,
+                options,
+                size,
+                memory,
+                decided,
+                places,
+                sorted,
+                last,
+                threshold,
+                area,
+                work,
+            )
         }
     }
 }
 
-// What try_commit does behind its first tests: the room, the walk, the memory, the cut.
-fn commit(
+// The same for at most 256 stored rows.
+fn commit_256(
+    committee: Committee,
+    options: UniversalCommitterOptions,
     blocks: &[u64],
     includes: &[u64],
     stored: usize,
-    stakes: &[u64],
-    floor: Stake,
-    options: UniversalCommitterOptions,
-    size: u64,
     memory: &mut [u64],
     decided: usize,
     last: AuthorRound,
@@ -217,45 +175,112 @@ fn commit(
     area: &mut [u64],
     work: &mut [u8],
 ) -> Committed
-    requires { ⌜ Tested options size (storeOf (now blocks) (now includes) stored) (now memory) decided last (threshold .0) ⌝ }
-    requires { ⌜ (now area ≡ replicate (length (now area)) 0) × (now work ≡ replicate (length (now work)) 0) ⌝ }
-    ensures { λ r. ⌜ reportedCommitted r ≡ commitReport (storeOf (now (blocks .entry)) (now (includes .entry)) stored) (now (stakes .entry)) (floor .0) options size (now (memory .entry)) decided last (threshold .0) (length (now (area .entry))) (length (now (work .entry))) ⌝ }
-    ensures filled { λ _. ⌜ now (area .exit) ≡ areaBy (commitReport (storeOf (now (blocks .entry)) (now (includes .entry)) stored) (now (stakes .entry)) (floor .0) options size (now (memory .entry)) decided last (threshold .0) (length (now (area .entry))) (length (now (work .entry)))) (outcomeIn (storeOf (now (blocks .entry)) (now (includes .entry)) stored) (now (stakes .entry)) (floor .0) options size (decisionsOf (now (memory .entry)) decided) last (threshold .0)) (length (now (area .entry))) ⌝ }
-    ensures remembers { λ _. ⌜ now (memory .exit) ≡ memoryBy (commitReport (storeOf (now (blocks .entry)) (now (includes .entry)) stored) (now (stakes .entry)) (floor .0) options size (now (memory .entry)) decided last (threshold .0) (length (now (area .entry))) (length (now (work .entry)))) (outcomeIn (storeOf (now (blocks .entry)) (now (includes .entry)) stored) (now (stakes .entry)) (floor .0) options size (decisionsOf (now (memory .entry)) decided) last (threshold .0)) (now (memory .entry)) decided ⌝ }
+    requires { ⌜ stored ≤ 256 ⌝ }
+    ensures { λ r. ⌜ reportedCommitted r ≡ commitAnswer committee options (storeOf (now (blocks .entry)) (now (includes .entry)) stored) (now (memory .entry)) decided last (threshold .0) (length (now (area .entry))) (length (now (work .entry))) ⌝ }
+    ensures filled { λ _. ⌜ now (area .exit) ≡ commitArea committee options (storeOf (now (blocks .entry)) (now (includes .entry)) stored) (now (memory .entry)) decided last (threshold .0) (length (now (area .entry))) (length (now (work .entry))) ⌝ }
+    ensures remembers { λ _. ⌜ now (memory .exit) ≡ commitMemory committee options (storeOf (now (blocks .entry)) (now (includes .entry)) stored) (now (memory .entry)) decided last (threshold .0) (length (now (area .entry))) (length (now (work .entry))) ⌝ }
     ensures zeroed { λ _. ⌜ now (work .exit) ≡ replicate (length (now (work .entry))) 0 ⌝ }
 {
-    let top = highest(blocks, stored, Filter::Any);
-    let low = last.round;
-    let rounds = rounds_examined(options, threshold, top, low);
-    let rows = (area.len() / STATUS_WORDS) as u64;
-    if rows < leaders_examined(options, low, rounds) {
-        return Committed::Refused(Refusal::ShortArea);
-    }
-    if work.len() < stored {
-        return Committed::Refused(Refusal::ShortArea);
-    }
-    let used = decided * STATUS_WORDS;
-    let found = examine_rounds(
+    let mut order = [0u16; 256];
+    let mut places = [0u16; 256];
+    let mut spare = [0u16; 256];
+    commit_by(
+        committee,
+        options,
         blocks,
         includes,
         stored,
-        stakes,
-        floor,
-        options,
-        size,
-        &memory[0..used],
-        low,
-        rounds,
+        memory,
+        decided,
+        last,
+        threshold,
         area,
         work,
-    );
-    match found {
-        Walked::From(first) => settle(memory, decided, area, first, last),
-        Walked::Two => {
-            clear(area);
-            Committed::Refused(Refusal::TwoCertified)
-        }
-    }
+        &mut order,
+        &mut places,
+        &mut spare,
+    )
+}
+
+// The same for at most 4,096 stored rows.
+fn commit_4096(
+    committee: Committee,
+    options: UniversalCommitterOptions,
+    blocks: &[u64],
+    includes: &[u64],
+    stored: usize,
+    memory: &mut [u64],
+    decided: usize,
+    last: AuthorRound,
+    threshold: RoundNumber,
+    area: &mut [u64],
+    work: &mut [u8],
+) -> Committed
+    requires { ⌜ stored ≤ 4096 ⌝ }
+    ensures { λ r. ⌜ reportedCommitted r ≡ commitAnswer committee options (storeOf (now (blocks .entry)) (now (includes .entry)) stored) (now (memory .entry)) decided last (threshold .0) (length (now (area .entry))) (length (now (work .entry))) ⌝ }
+    ensures filled { λ _. ⌜ now (area .exit) ≡ commitArea committee options (storeOf (now (blocks .entry)) (now (includes .entry)) stored) (now (memory .entry)) decided last (threshold .0) (length (now (area .entry))) (length (now (work .entry))) ⌝ }
+    ensures remembers { λ _. ⌜ now (memory .exit) ≡ commitMemory committee options (storeOf (now (blocks .entry)) (now (includes .entry)) stored) (now (memory .entry)) decided last (threshold .0) (length (now (area .entry))) (length (now (work .entry))) ⌝ }
+    ensures zeroed { λ _. ⌜ now (work .exit) ≡ replicate (length (now (work .entry))) 0 ⌝ }
+{
+    let mut order = [0u16; 4096];
+    let mut places = [0u16; 4096];
+    let mut spare = [0u16; 4096];
+    commit_by(
+        committee,
+        options,
+        blocks,
+        includes,
+        stored,
+        memory,
+        decided,
+        last,
+        threshold,
+        area,
+        work,
+        &mut order,
+        &mut places,
+        &mut spare,
+    )
+}
+
+// The same for any number of stored rows: a table has no more.
+fn commit_65536(
+    committee: Committee,
+    options: UniversalCommitterOptions,
+    blocks: &[u64],
+    includes: &[u64],
+    stored: usize,
+    memory: &mut [u64],
+    decided: usize,
+    last: AuthorRound,
+    threshold: RoundNumber,
+    area: &mut [u64],
+    work: &mut [u8],
+) -> Committed
+    ensures { λ r. ⌜ reportedCommitted r ≡ commitAnswer committee options (storeOf (now (blocks .entry)) (now (includes .entry)) stored) (now (memory .entry)) decided last (threshold .0) (length (now (area .entry))) (length (now (work .entry))) ⌝ }
+    ensures filled { λ _. ⌜ now (area .exit) ≡ commitArea committee options (storeOf (now (blocks .entry)) (now (includes .entry)) stored) (now (memory .entry)) decided last (threshold .0) (length (now (area .entry))) (length (now (work .entry))) ⌝ }
+    ensures remembers { λ _. ⌜ now (memory .exit) ≡ commitMemory committee options (storeOf (now (blocks .entry)) (now (includes .entry)) stored) (now (memory .entry)) decided last (threshold .0) (length (now (area .entry))) (length (now (work .entry))) ⌝ }
+    ensures zeroed { λ _. ⌜ now (work .exit) ≡ replicate (length (now (work .entry))) 0 ⌝ }
+{
+    let mut order = [0u16; MAX_BLOCKS];
+    let mut places = [0u16; MAX_BLOCKS];
+    let mut spare = [0u16; MAX_BLOCKS];
+    commit_by(
+        committee,
+        options,
+        blocks,
+        includes,
+        stored,
+        memory,
+        decided,
+        last,
+        threshold,
+        area,
+        work,
+        &mut order,
+        &mut places,
+        &mut spare,
+    )
 }
 
 // Decides as many leaders as possible and gives those that follow the last decided one, up to the first undecided; new decisions go into the
@@ -278,42 +303,51 @@ pub fn try_commit(
     ensures remembers { λ _. ⌜ now (memory .exit) ≡ commitMemory committee options (storeOf (now (blocks .entry)) (now (includes .entry)) stored) (now (memory .entry)) decided last (threshold .0) (length (now (area .entry))) (length (now (work .entry))) ⌝ }
     ensures zeroed { λ _. ⌜ now (work .exit) ≡ replicate (length (now (work .entry))) 0 ⌝ }
 {
-    clear(area);
-    clear_bytes(work);
-    let words = area.len();
-    let verdict = tested(
-        committee,
-        options,
-        blocks,
-        includes,
-        stored,
-        &memory[..],
-        decided,
-        last,
-        threshold,
-        words,
-    );
-    match verdict {
-        Verdict::Refused(n) => Committed::Refused(n),
-        Verdict::Done => {
-            let stakes = stake_words(committee);
-            let floor = committee.quorum;
-            let size = committee.size;
-            commit(
+    if stored <= 256 {
+        if decided <= 256 {
+            return commit_256(
+                committee,
+                options,
                 blocks,
                 includes,
                 stored,
-                &stakes,
-                floor,
-                options,
-                size,
                 memory,
                 decided,
                 last,
                 threshold,
                 area,
                 work,
-            )
+            );
         }
     }
+    if stored <= 4096 {
+        if decided <= 4096 {
+            return commit_4096(
+                committee,
+                options,
+                blocks,
+                includes,
+                stored,
+                memory,
+                decided,
+                last,
+                threshold,
+                area,
+                work,
+            );
+        }
+    }
+    commit_65536(
+        committee,
+        options,
+        blocks,
+        includes,
+        stored,
+        memory,
+        decided,
+        last,
+        threshold,
+        area,
+        work,
+    )
 }

@@ -19,9 +19,12 @@ ghost use mathlib.Core.Path.{_≡_};
 ghost use mathlib.Core.List.{[]};
 ghost use Prim.Native.Nat.{_+_, _*_, _^_, _≤_, _<_};
 ghost use lib.ListN.{length, replicate, drop};
+ghost use Rattle.index.specs.Keys.{referenceKey};
+ghost use Rattle.index.specs.Search.{Indexed};
 ghost use Rattle.block_store.specs.Store.{storeOf};
 ghost use Rattle.linked.specs.Linked.{linkedIn};
 ghost use Rattle.consensus.specs.Statuses.{statusWords, statusesOf};
+ghost use Rattle.commit_walk.specs.Rows.{SortedIf};
 ghost use Rattle.commit_walk.specs.Walk.{examine};
 ghost use Rattle.universal_committer.specs.Options.{SoundOptions, committers};
 ghost use Rattle.universal_committer.specs.Seats.{seatsBelow, seatsOver};
@@ -43,11 +46,12 @@ fn is_ruled(d: Decision) -> bool
     }
 }
 
-// What the two rules say of a leader: the indirect one is asked what the direct one leaves undecided.
+// What the two rules say of a leader, by the stored rows in order: the indirect one is asked what the direct one leaves undecided.
 fn ruled(
     blocks: &[u64],
     includes: &[u64],
     stored: usize,
+    order: &[u16],
     stakes: &[u64],
     floor: Stake,
     base: BaseCommitterOptions,
@@ -56,12 +60,23 @@ fn ruled(
     work: &mut [u8],
 ) -> Decision
     requires { ⌜ now work ≡ replicate (length (now work)) 0 ⌝ }
+    requires { ⌜ Indexed (referenceKey (now blocks)) stored (now order) ⌝ }
     ensures { λ r. ⌜ r ≡ ruledOf (storeOf (now (blocks .entry)) (now (includes .entry)) stored) (linkedIn (storeOf (now (blocks .entry)) (now (includes .entry)) stored) (length (now (work .entry)))) (now (stakes .entry)) (floor .0) base (place .authority .0) (place .round .0) (statusesOf (now (later .entry))) ⌝ }
     ensures zeroed { λ _. ⌜ now (work .exit) ≡ replicate (length (now (work .entry))) 0 ⌝ }
 {
     let leader = place.authority;
     let round = place.round;
-    let direct = direct_decision(blocks, includes, stored, stakes, floor, base, leader, round);
+    let direct = direct_decision(
+        blocks,
+        includes,
+        stored,
+        order,
+        stakes,
+        floor,
+        base,
+        leader,
+        round,
+    );
     if is_ruled(direct) {
         return direct;
     }
@@ -69,6 +84,7 @@ fn ruled(
         blocks,
         includes,
         stored,
+        order,
         stakes,
         floor,
         base,
@@ -84,19 +100,24 @@ fn decision_at(
     blocks: &[u64],
     includes: &[u64],
     stored: usize,
+    order: &[u16],
     stakes: &[u64],
     floor: Stake,
     memory: &[u64],
+    places: &[u16],
+    sorted: bool,
     base: BaseCommitterOptions,
     place: AuthorRound,
     later: &[u64],
     work: &mut [u8],
 ) -> Decision
     requires { ⌜ now work ≡ replicate (length (now work)) 0 ⌝ }
+    requires { ⌜ Indexed (referenceKey (now blocks)) stored (now order) ⌝ }
+    requires { ⌜ SortedIf sorted (now places) (now memory) ⌝ }
     ensures { λ r. ⌜ r ≡ foundOf (storeOf (now (blocks .entry)) (now (includes .entry)) stored) (linkedIn (storeOf (now (blocks .entry)) (now (includes .entry)) stored) (length (now (work .entry)))) (now (stakes .entry)) (floor .0) (statusesOf (now (memory .entry))) base (place .authority .0) (place .round .0) (statusesOf (now (later .entry))) ⌝ }
     ensures zeroed { λ _. ⌜ now (work .exit) ≡ replicate (length (now (work .entry))) 0 ⌝ }
 {
-    let found = remembered(memory, place);
+    let found = remembered(memory, places, sorted, place);
     if let Recalled::Known(x) = found {
         return Decision::Decided(x);
     }
@@ -104,6 +125,7 @@ fn decision_at(
         blocks,
         includes,
         stored,
+        order,
         stakes,
         floor,
         base,
@@ -118,11 +140,14 @@ fn examine_round(
     blocks: &[u64],
     includes: &[u64],
     stored: usize,
+    order: &[u16],
     stakes: &[u64],
     floor: Stake,
     options: UniversalCommitterOptions,
     size: u64,
     memory: &[u64],
+    places: &[u16],
+    sorted: bool,
     round: RoundNumber,
     area: &mut [u64],
     from: usize,
@@ -131,6 +156,8 @@ fn examine_round(
     requires { ⌜ SoundOptions options 128 ⌝ }
     requires { ⌜ (from ≤ length (now area)) × (length (seatsBelow options size (round .0) (committers options)) * statusWords ≤ from) ⌝ }
     requires { ⌜ now work ≡ replicate (length (now work)) 0 ⌝ }
+    requires { ⌜ Indexed (referenceKey (now blocks)) stored (now order) ⌝ }
+    requires { ⌜ SortedIf sorted (now places) (now memory) ⌝ }
     ensures { λ r. ⌜ walkOf r (now (area .exit)) ≡ examine (rulesOf (storeOf (now (blocks .entry)) (now (includes .entry)) stored) (linkedIn (storeOf (now (blocks .entry)) (now (includes .entry)) stored) (length (now (work .entry)))) (now (stakes .entry)) (floor .0) options) (statusesOf (now (memory .entry))) (seatsBelow options size (round .0) (committers options)) (statusesOf (drop from (now (area .entry)))) ⌝ }
     ensures used { λ r. ⌜ Left r from (length (seatsBelow options size (round .0) (committers options))) ⌝ }
     ensures zeroed { λ _. ⌜ now (work .exit) ≡ replicate (length (now (work .entry))) 0 ⌝ }
@@ -151,9 +178,12 @@ fn examine_round(
             blocks,
             includes,
             stored,
+            order,
             stakes,
             floor,
             memory,
+            places,
+            sorted,
             base,
             place,
             &area[first..],
@@ -173,11 +203,14 @@ pub(crate) fn examine_rounds(
     blocks: &[u64],
     includes: &[u64],
     stored: usize,
+    order: &[u16],
     stakes: &[u64],
     floor: Stake,
     options: UniversalCommitterOptions,
     size: u64,
     memory: &[u64],
+    places: &[u16],
+    sorted: bool,
     low: RoundNumber,
     rounds: u64,
     area: &mut [u64],
@@ -186,6 +219,8 @@ pub(crate) fn examine_rounds(
     requires { ⌜ SoundOptions options 128 ⌝ }
     requires { ⌜ (low .0 + rounds ≤ 2 ^ 42) × (length (seatsOver options size (low .0) rounds) * statusWords ≤ length (now area)) ⌝ }
     requires { ⌜ now work ≡ replicate (length (now work)) 0 ⌝ }
+    requires { ⌜ Indexed (referenceKey (now blocks)) stored (now order) ⌝ }
+    requires { ⌜ SortedIf sorted (now places) (now memory) ⌝ }
     ensures { λ r. ⌜ walkOf r (now (area .exit)) ≡ examine (rulesOf (storeOf (now (blocks .entry)) (now (includes .entry)) stored) (linkedIn (storeOf (now (blocks .entry)) (now (includes .entry)) stored) (length (now (work .entry)))) (now (stakes .entry)) (floor .0) options) (statusesOf (now (memory .entry))) (seatsOver options size (low .0) rounds) [] ⌝ }
     ensures used { λ r. ⌜ Left r (length (now (area .entry))) (length (seatsOver options size (low .0) rounds)) ⌝ }
     ensures zeroed { λ _. ⌜ now (work .exit) ≡ replicate (length (now (work .entry))) 0 ⌝ }
@@ -198,11 +233,14 @@ pub(crate) fn examine_rounds(
             blocks,
             includes,
             stored,
+            order,
             stakes,
             floor,
             options,
             size,
             memory,
+            places,
+            sorted,
             RoundNumber(low.0 + n),
             area,
             first,

@@ -1,52 +1,68 @@
--- `leader_exists` meets its contract: the loop has found no leader block before k. Assumes nothing.
+-- `leader_exists` meets its contract: a leader block is left from entry k on, or there is none. Assumes nothing.
 use Prim.Native.Nat.{_-_}
 use borrow.Author.Needs.{needs}
-use mathlib.Core.Path.{refl, sym, _∙_}
-use Rattle.base_committer.proofs.Scans.{NoneBelow, any-start, any-pass, any-yes, any-done, some-is}
-use Rattle.base_committer.specs.Decide.{leaderBlocks}
-use Rattle.block_store.specs.Store.{isAt}
-use Rattle.support.specs.Quorums.{everyRow}
+use mathlib.Core.Path.{_≡_, refl}
+use Rattle.base_committer.proofs.Scans.{any-pass, any-yes, any-done, by-leader, by-other, some-start}
+use Rattle.base_committer.specs.Decide.{isBy, leaderBlocks}
+use Rattle.base_committer.specs.Only.{some, anyOf}
+use Rattle.index.specs.Rounds.{rowsOfRound}
+use Rattle.support.proofs.Windows.{windowFrom, window-next, window-other, window-end}
+use Rattle.support.specs.Quorums.{keep, everyRow}
 use Rattle.base_committer.proofs.direct.leader_exists.Statement.{statement}
 use Rattle.base_committer.proofs.direct.leader_exists.Tie as tie
 
 abbrev Inv-loop : tie.InvT-loop
-Inv-loop blocks stored leader round k₀ k = NoneBelow (isAt blocks (leader .0) (round .0)) everyRow stored k
+Inv-loop blocks stored order leader round k₀ k = anyOf everyRow (keep (isBy blocks (leader .0)) (windowFrom blocks order stored (round .0) k)) ≡ some (leaderBlocks blocks (leader .0) (rowsOfRound blocks order stored (round .0)))
 
 abbrev μ-loop : tie.MeasureT-loop
-μ-loop blocks stored leader round k₀ k = stored - k
+μ-loop blocks stored order leader round k₀ k = stored - k
+
+first-of-round-requires : tie.Need-first-of-round-requires Inv-loop μ-loop
+first-of-round-requires c κs = search needs
 
 loop-holds : tie.Need-loop-holds Inv-loop μ-loop
 loop-holds c =
-    let a = c .before .args in
-    any-start (isAt (a .blocks .now) (a .leader .0) (a .round .0)) everyRow (a .stored)
+    let a = c .before .before .before .args in
+    some-start (a .blocks .now) (a .order .now) (a .stored) (a .round .0) _ (c .first-of-round .ensures) (a .leader .0)
+
+row-at-requires : tie.Need-row-at-requires Inv-loop μ-loop
+row-at-requires c κs = search needs
 
 add-k : tie.Need-add-k Inv-loop μ-loop
 add-k c = search needs
 
-is-at-requires : tie.Need-is-at-requires Inv-loop μ-loop
-is-at-requires c κs = search needs
+round-at-requires : tie.Need-round-at-requires Inv-loop μ-loop
+round-at-requires c κs = search needs
 
 returns : tie.Need-returns Inv-loop μ-loop
-unfolding leaderBlocks
 returns c =
-    let a = c .before .before .before .before .before .args in
-    any-yes (isAt (a .blocks .now) (a .leader .0) (a .round .0)) everyRow (a .stored) (c .before .before .before .loop .k) (c .before .before .before .loop .inv) (c .before .before .loop-test .taken) (sym (c .before .is-at .ensures) ∙ c .if1 .taken) refl
-    ∙ some-is (leaderBlocks (a .blocks .now) (a .stored) (a .leader .0) (a .round .0))
+    let a = c .before .before .before .before .before .before .before .before .before .before .args in
+    let l = c .before .before .before .before .before .before .loop in
+    any-done (isBy (a .blocks .now) (a .leader .0)) everyRow _ _ (l .inv) (window-other (a .blocks .now) (a .order .now) (a .stored) (a .round .0) (l .k) _ _ (c .before .before .before .before .row-at .ensures) (c .before .before .before .round-at .ensures) (c .before .before .before .before .before .loop-test .taken) (c .if1 .taken))
+
+authority-at-requires : tie.Need-authority-at-requires Inv-loop μ-loop
+authority-at-requires c κs = search needs
+
+returns-2 : tie.Need-returns-2 Inv-loop μ-loop
+returns-2 c =
+    let a = c .before .before .before .before .before .before .before .before .before .before .before .before .before .before .args in
+    let l = c .before .before .before .before .before .before .before .before .before .before .loop in
+    any-yes (isBy (a .blocks .now) (a .leader .0)) everyRow _ _ (l .inv) (c .before .before .before .before .before .before .before .before .row-at .result) _ (window-next (a .blocks .now) (a .order .now) (a .stored) (a .round .0) (l .k) _ _ (c .before .before .before .before .before .before .before .before .row-at .ensures) (c .before .before .before .before .before .before .before .round-at .ensures) (c .before .before .before .before .before .before .before .before .before .loop-test .taken) (c .before .before .before .before .if1 .left)) (by-leader (a .blocks .now) (a .leader .0) (c .before .before .before .before .before .before .before .before .row-at .result) _ (c .before .before .before .authority-at .ensures) (c .if2 .taken)) refl
 
 loop-less : tie.Need-loop-less Inv-loop μ-loop
 loop-less c = search needs
 
 loop-again : tie.Need-loop-again Inv-loop μ-loop
 loop-again c =
-    let a = c .before .before .before .before .before .args in
-    any-pass (isAt (a .blocks .now) (a .leader .0) (a .round .0)) everyRow (a .stored) (c .before .before .before .loop .k) (c .before .before .before .loop .inv) (c .before .before .loop-test .taken) (sym (c .before .is-at .ensures) ∙ c .if1 .left)
+    let a = c .before .before .before .before .before .before .before .before .before .before .before .before .before .before .args in
+    let l = c .before .before .before .before .before .before .before .before .before .before .loop in
+    any-pass (isBy (a .blocks .now) (a .leader .0)) everyRow _ _ (l .inv) (c .before .before .before .before .before .before .before .before .row-at .result) _ (window-next (a .blocks .now) (a .order .now) (a .stored) (a .round .0) (l .k) _ _ (c .before .before .before .before .before .before .before .before .row-at .ensures) (c .before .before .before .before .before .before .before .round-at .ensures) (c .before .before .before .before .before .before .before .before .before .loop-test .taken) (c .before .before .before .before .if1 .left)) (by-other (a .blocks .now) (a .leader .0) (c .before .before .before .before .before .before .before .before .row-at .result) _ (c .before .before .before .authority-at .ensures) (c .if2 .left))
 
-returns-2 : tie.Need-returns-2 Inv-loop μ-loop
-unfolding leaderBlocks
-returns-2 c =
-    let a = c .before .before .before .args in
-    any-done (isAt (a .blocks .now) (a .leader .0) (a .round .0)) everyRow (a .stored) (c .before .loop .k) (c .before .loop .inv) (c .loop-test .left)
-    ∙ some-is (leaderBlocks (a .blocks .now) (a .stored) (a .leader .0) (a .round .0))
+returns-3 : tie.Need-returns-3 Inv-loop μ-loop
+returns-3 c =
+    let a = c .before .before .before .before .before .args in
+    let l = c .before .loop in
+    any-done (isBy (a .blocks .now) (a .leader .0)) everyRow _ _ (l .inv) (window-end (a .blocks .now) (a .order .now) (a .stored) (a .round .0) (l .k) (c .loop-test .left))
 
 pub leader-exists-spec : {M : Type 1} → statement M
 leader-exists-spec =
@@ -54,10 +70,14 @@ leader-exists-spec =
     (tie.spec
     Inv-loop
     μ-loop
+    first-of-round-requires
     loop-holds
+    row-at-requires
     add-k
-    is-at-requires
+    round-at-requires
     returns
+    authority-at-requires
+    returns-2
     loop-less
     loop-again
-    returns-2)
+    returns-3)

@@ -1,31 +1,50 @@
--- `only_supported` meets its contract: the loop has counted the supported leader blocks before k. Assumes nothing.
+-- `only_supported` meets its contract: what is found, with the rows left from entry k on. Assumes nothing.
 use Prim.Native.Nat.{_-_}
 use borrow.Author.Needs.{needs}
 use mathlib.Core.Bool.{true, false}
-use mathlib.Core.Path.{sym, _∙_}
+use mathlib.Core.Path.{_≡_}
 use Rattle.base_committer.proofs.Decisions.{supported-is}
-use Rattle.base_committer.proofs.Scans.{FoundBelow, only-start, only-pass, only-no, only-yes, only-done}
-use Rattle.base_committer.specs.Decide.{leaderBlocks, enoughLeaderSupport}
-use Rattle.block_store.specs.Store.{isAt, storeOf}
+use Rattle.base_committer.proofs.Scans.{withRows, only-start, only-pass, only-no, only-yes, only-done, by-leader, by-other}
+use Rattle.base_committer.specs.Decide.{isBy, leaderBlocks, enoughLeaderSupport}
+use Rattle.base_committer.specs.Only.{keepOnly}
+use Rattle.block_store.specs.Store.{storeOf}
+use Rattle.index.specs.Rounds.{rowsOfRound}
+use Rattle.support.proofs.Windows.{windowFrom, window-next, window-other, window-end}
+use Rattle.support.specs.Quorums.{keep}
 use Rattle.base_committer.proofs.direct.only_supported.Statement.{statement}
 use Rattle.base_committer.proofs.direct.only_supported.Tie as tie
 
 abbrev Inv-loop : tie.InvT-loop
-Inv-loop blocks includes stored stakes floor decision leader round found₀ k₀ found k = FoundBelow (isAt blocks (leader .0) (round .0)) (enoughLeaderSupport (storeOf blocks includes stored) stakes (floor .0) (decision .0)) stored found k
+Inv-loop blocks includes stored order stakes floor decision leader round found₀ k₀ found k = withRows found (keep (enoughLeaderSupport (storeOf blocks includes stored) (rowsOfRound blocks order stored) stakes (floor .0) (decision .0)) (keep (isBy blocks (leader .0)) (windowFrom blocks order stored (round .0) k))) ≡ keepOnly (enoughLeaderSupport (storeOf blocks includes stored) (rowsOfRound blocks order stored) stakes (floor .0) (decision .0)) (leaderBlocks blocks (leader .0) (rowsOfRound blocks order stored (round .0)))
 
 abbrev μ-loop : tie.MeasureT-loop
-μ-loop blocks includes stored stakes floor decision leader round found₀ k₀ found k = stored - k
+μ-loop blocks includes stored order stakes floor decision leader round found₀ k₀ found k = stored - k
+
+first-of-round-requires : tie.Need-first-of-round-requires Inv-loop μ-loop
+first-of-round-requires c κs = search needs
 
 loop-holds : tie.Need-loop-holds Inv-loop μ-loop
 loop-holds c =
-    let a = c .before .before .before .args in
-    only-start (isAt (a .blocks .now) (a .leader .0) (a .round .0)) (enoughLeaderSupport (storeOf (a .blocks .now) (a .includes .now) (a .stored)) (a .stakes .now) (a .floor .0) (a .decision .0)) (a .stored)
+    let a = c .before .before .before .before .before .args in
+    only-start (a .blocks .now) (a .order .now) (a .stored) (a .round .0) _ (c .first-of-round .ensures) (a .leader .0) (enoughLeaderSupport (storeOf (a .blocks .now) (a .includes .now) (a .stored)) (rowsOfRound (a .blocks .now) (a .order .now) (a .stored)) (a .stakes .now) (a .floor .0) (a .decision .0))
+
+row-at-requires : tie.Need-row-at-requires Inv-loop μ-loop
+row-at-requires c κs = search needs
 
 add-k : tie.Need-add-k Inv-loop μ-loop
 add-k c = search needs
 
-is-at-requires : tie.Need-is-at-requires Inv-loop μ-loop
-is-at-requires c κs = search needs
+round-at-requires : tie.Need-round-at-requires Inv-loop μ-loop
+round-at-requires c κs = search needs
+
+returns : tie.Need-returns Inv-loop μ-loop
+returns c =
+    let a = c .before .before .before .before .before .before .before .before .before .before .before .before .args in
+    let l = c .before .before .before .before .before .before .loop in
+    only-done (isBy (a .blocks .now) (a .leader .0)) (enoughLeaderSupport (storeOf (a .blocks .now) (a .includes .now) (a .stored)) (rowsOfRound (a .blocks .now) (a .order .now) (a .stored)) (a .stakes .now) (a .floor .0) (a .decision .0)) (l .found) _ _ (l .inv) (window-other (a .blocks .now) (a .order .now) (a .stored) (a .round .0) (l .k) _ _ (c .before .before .before .before .row-at .ensures) (c .before .before .before .round-at .ensures) (c .before .before .before .before .before .loop-test .taken) (c .if1 .taken))
+
+authority-at-requires : tie.Need-authority-at-requires Inv-loop μ-loop
+authority-at-requires c κs = search needs
 
 quorum-in-requires : tie.Need-quorum-in-requires Inv-loop μ-loop
 quorum-in-requires c κs = search needs
@@ -38,38 +57,33 @@ loop-less c = search needs
 
 loop-again : tie.Need-loop-again Inv-loop μ-loop
 loop-again c =
-    let a = c .before .before .before .before .before .before .before .before .before .before .args in
-    let s = storeOf (a .blocks .now) (a .includes .now) (a .stored) in
-    let l = c .before .before .before .before .before .before .loop in
-    only-yes (isAt (a .blocks .now) (a .leader .0) (a .round .0)) (enoughLeaderSupport s (a .stakes .now) (a .floor .0) (a .decision .0)) (a .stored) (l .found) (l .k) (l .inv) (c .with-row .result) (c .before .before .before .before .before .loop-test .taken) (sym (c .before .before .before .before .is-at .ensures) ∙ c .before .before .before .if1 .taken) (supported-is s (a .stakes .now) (a .floor .0) (a .decision .0) (l .k) _ true (c .before .before .quorum-in .ensures) (c .before .if2 .taken)) (c .with-row .ensures)
+    let a = c .before .before .before .before .before .before .before .before .before .before .before .before .before .before .before .before .before .before .before .args in
+    let l = c .before .before .before .before .before .before .before .before .before .before .before .before .before .loop in
+    only-yes (isBy (a .blocks .now) (a .leader .0)) (enoughLeaderSupport (storeOf (a .blocks .now) (a .includes .now) (a .stored)) (rowsOfRound (a .blocks .now) (a .order .now) (a .stored)) (a .stakes .now) (a .floor .0) (a .decision .0)) (l .found) _ _ (l .inv) (c .before .before .before .before .before .before .before .before .before .before .before .row-at .result) _ (window-next (a .blocks .now) (a .order .now) (a .stored) (a .round .0) (l .k) _ _ (c .before .before .before .before .before .before .before .before .before .before .before .row-at .ensures) (c .before .before .before .before .before .before .before .before .before .before .round-at .ensures) (c .before .before .before .before .before .before .before .before .before .before .before .before .loop-test .taken) (c .before .before .before .before .before .before .before .if1 .left)) (c .with-row .result) (by-leader (a .blocks .now) (a .leader .0) (c .before .before .before .before .before .before .before .before .before .before .before .row-at .result) _ (c .before .before .before .before .before .before .authority-at .ensures) (c .before .before .before .if2 .taken)) (supported-is (storeOf (a .blocks .now) (a .includes .now) (a .stored)) (rowsOfRound (a .blocks .now) (a .order .now) (a .stored)) (a .stakes .now) (a .floor .0) (a .decision .0) (c .before .before .before .before .before .before .before .before .before .before .before .row-at .result) _ true (c .before .before .quorum-in .ensures) (c .before .if3 .taken)) (c .with-row .ensures)
 
 loop-less-2 : tie.Need-loop-less-2 Inv-loop μ-loop
 loop-less-2 c = search needs
 
 loop-again-2 : tie.Need-loop-again-2 Inv-loop μ-loop
 loop-again-2 c =
-    let a = c .before .before .before .before .before .before .before .before .before .args in
-    let s = storeOf (a .blocks .now) (a .includes .now) (a .stored) in
-    let l = c .before .before .before .before .before .loop in
-    only-no (isAt (a .blocks .now) (a .leader .0) (a .round .0)) (enoughLeaderSupport s (a .stakes .now) (a .floor .0) (a .decision .0)) (a .stored) (l .found) (l .k) (l .inv) (c .before .before .before .before .loop-test .taken) (sym (c .before .before .before .is-at .ensures) ∙ c .before .before .if1 .taken) (supported-is s (a .stakes .now) (a .floor .0) (a .decision .0) (l .k) _ false (c .before .quorum-in .ensures) (c .if2 .left))
+    let a = c .before .before .before .before .before .before .before .before .before .before .before .before .before .before .before .before .before .before .args in
+    let l = c .before .before .before .before .before .before .before .before .before .before .before .before .loop in
+    only-no (isBy (a .blocks .now) (a .leader .0)) (enoughLeaderSupport (storeOf (a .blocks .now) (a .includes .now) (a .stored)) (rowsOfRound (a .blocks .now) (a .order .now) (a .stored)) (a .stakes .now) (a .floor .0) (a .decision .0)) (l .found) _ _ (l .inv) (c .before .before .before .before .before .before .before .before .before .before .row-at .result) _ (window-next (a .blocks .now) (a .order .now) (a .stored) (a .round .0) (l .k) _ _ (c .before .before .before .before .before .before .before .before .before .before .row-at .ensures) (c .before .before .before .before .before .before .before .before .before .round-at .ensures) (c .before .before .before .before .before .before .before .before .before .before .before .loop-test .taken) (c .before .before .before .before .before .before .if1 .left)) (by-leader (a .blocks .now) (a .leader .0) (c .before .before .before .before .before .before .before .before .before .before .row-at .result) _ (c .before .before .before .before .before .authority-at .ensures) (c .before .before .if2 .taken)) (supported-is (storeOf (a .blocks .now) (a .includes .now) (a .stored)) (rowsOfRound (a .blocks .now) (a .order .now) (a .stored)) (a .stakes .now) (a .floor .0) (a .decision .0) (c .before .before .before .before .before .before .before .before .before .before .row-at .result) _ false (c .before .quorum-in .ensures) (c .if3 .left))
 
 loop-less-3 : tie.Need-loop-less-3 Inv-loop μ-loop
 loop-less-3 c = search needs
 
 loop-again-3 : tie.Need-loop-again-3 Inv-loop μ-loop
 loop-again-3 c =
-    let a = c .before .before .before .before .before .before .before .args in
-    let s = storeOf (a .blocks .now) (a .includes .now) (a .stored) in
-    let l = c .before .before .before .loop in
-    only-pass (isAt (a .blocks .now) (a .leader .0) (a .round .0)) (enoughLeaderSupport s (a .stakes .now) (a .floor .0) (a .decision .0)) (a .stored) (l .found) (l .k) (l .inv) (c .before .before .loop-test .taken) (sym (c .before .is-at .ensures) ∙ c .if1 .left)
+    let a = c .before .before .before .before .before .before .before .before .before .before .before .before .before .before .before .before .args in
+    let l = c .before .before .before .before .before .before .before .before .before .before .loop in
+    only-pass (isBy (a .blocks .now) (a .leader .0)) (enoughLeaderSupport (storeOf (a .blocks .now) (a .includes .now) (a .stored)) (rowsOfRound (a .blocks .now) (a .order .now) (a .stored)) (a .stakes .now) (a .floor .0) (a .decision .0)) (l .found) _ _ (l .inv) (c .before .before .before .before .before .before .before .before .row-at .result) _ (window-next (a .blocks .now) (a .order .now) (a .stored) (a .round .0) (l .k) _ _ (c .before .before .before .before .before .before .before .before .row-at .ensures) (c .before .before .before .before .before .before .before .round-at .ensures) (c .before .before .before .before .before .before .before .before .before .loop-test .taken) (c .before .before .before .before .if1 .left)) (by-other (a .blocks .now) (a .leader .0) (c .before .before .before .before .before .before .before .before .row-at .result) _ (c .before .before .before .authority-at .ensures) (c .if2 .left))
 
-returns : tie.Need-returns Inv-loop μ-loop
-unfolding leaderBlocks
-returns c =
-    let a = c .before .before .before .before .before .args in
-    let s = storeOf (a .blocks .now) (a .includes .now) (a .stored) in
+returns-2 : tie.Need-returns-2 Inv-loop μ-loop
+returns-2 c =
+    let a = c .before .before .before .before .before .before .before .args in
     let l = c .before .loop in
-    only-done (isAt (a .blocks .now) (a .leader .0) (a .round .0)) (enoughLeaderSupport s (a .stakes .now) (a .floor .0) (a .decision .0)) (a .stored) (l .found) (l .k) (l .inv) (c .loop-test .left)
+    only-done (isBy (a .blocks .now) (a .leader .0)) (enoughLeaderSupport (storeOf (a .blocks .now) (a .includes .now) (a .stored)) (rowsOfRound (a .blocks .now) (a .order .now) (a .stored)) (a .stakes .now) (a .floor .0) (a .decision .0)) (l .found) _ _ (l .inv) (window-end (a .blocks .now) (a .order .now) (a .stored) (a .round .0) (l .k) (c .loop-test .left))
 
 pub only-supported-spec : {M : Type 1} → statement M
 only-supported-spec =
@@ -77,9 +91,13 @@ only-supported-spec =
     (tie.spec
     Inv-loop
     μ-loop
+    first-of-round-requires
     loop-holds
+    row-at-requires
     add-k
-    is-at-requires
+    round-at-requires
+    returns
+    authority-at-requires
     quorum-in-requires
     with-row-requires
     loop-less
@@ -88,4 +106,4 @@ only-supported-spec =
     loop-again-2
     loop-less-3
     loop-again-3
-    returns)
+    returns-2)

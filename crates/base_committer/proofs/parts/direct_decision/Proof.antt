@@ -2,6 +2,7 @@
 use borrow.Author.Needs.{needs}
 use Rattle.base_committer.proofs.Decisions.{direct-skip, direct-found}
 use Rattle.block_store.specs.Store.{storeOf}
+use Rattle.index.specs.Rounds.{rowsOfRound}
 use Rattle.base_committer.proofs.parts.direct_decision.Statement.{statement}
 use Rattle.base_committer.proofs.parts.direct_decision.Tie as tie
 
@@ -10,8 +11,8 @@ skipped-requires c κs = search needs
 
 returns : tie.Need-returns
 returns c =
-    let a = c .before .before .before .before .before .args in
-    direct-skip (storeOf (a .blocks .now) (a .includes .now) (a .stored)) (a .stakes .now) (a .floor .0) (a .options) (a .leader .0) (a .round .0) _ (c .before .skipped .ensures) (c .if1 .taken)
+    let a = c .before .before .before .before .before .before .args in
+    direct-skip (storeOf (a .blocks .now) (a .includes .now) (a .stored)) (rowsOfRound (a .blocks .now) (a .order .now) (a .stored)) (a .stakes .now) (a .floor .0) (a .options) (a .leader .0) (a .round .0) _ (c .before .skipped .ensures) (c .if1 .taken)
 
 wave-number-requires : tie.Need-wave-number-requires
 wave-number-requires c κs = search needs
@@ -27,8 +28,8 @@ commit-or-requires c κs = search needs
 
 returns-2 : tie.Need-returns-2
 returns-2 c =
-    let a = c .before .before .before .before .before .before .before .before .before .args in
-    direct-found (storeOf (a .blocks .now) (a .includes .now) (a .stored)) (a .stakes .now) (a .floor .0) (a .options) (a .leader .0) (a .round .0) _ (c .before .before .before .before .before .skipped .ensures) (c .before .before .before .before .if1 .left) (c .before .before .before .wave-number .result) (c .before .before .decision-round .result .0) _ _ (c .before .before .before .wave-number .ensures) (c .before .before .decision-round .ensures) (c .before .only-supported .ensures) (c .commit-or .ensures)
+    let a = c .before .before .before .before .before .before .before .before .before .before .args in
+    direct-found (storeOf (a .blocks .now) (a .includes .now) (a .stored)) (rowsOfRound (a .blocks .now) (a .order .now) (a .stored)) (a .stakes .now) (a .floor .0) (a .options) (a .leader .0) (a .round .0) _ (c .before .before .before .before .before .skipped .ensures) (c .before .before .before .before .if1 .left) (c .before .before .before .wave-number .result) (c .before .before .decision-round .result .0) _ _ (c .before .before .before .wave-number .ensures) (c .before .before .decision-round .ensures) (c .before .only-supported .ensures) (c .commit-or .ensures)
 
 pub direct-decision-spec : {M : Type 1} → statement M
 direct-decision-spec =

@@ -4,17 +4,18 @@ use borrow.Author.Needs.{needs}
 use lib.ListN.{take, drop}
 use native.Mathlib.Omega.{arith}
 use Rattle.commit_walk.proofs.Recording.{RecordTo, record-start, record-fits, record-yes, record-no, record-done, part-old}
+use Rattle.commit_walk.specs.Rows.{recallBy}
 use Rattle.commit_walk.proofs.parts.append.Statement.{statement}
 use Rattle.commit_walk.proofs.parts.append.Tie as tie
 
 abbrev Inv-loop : tie.InvT-loop
-Inv-loop memory₀ used rows end₀ k₀ memory end k = RecordTo memory₀ used rows memory end k
+Inv-loop memory₀ used order sorted rows end₀ k₀ memory end k = RecordTo (recallBy sorted order (take used memory₀)) memory₀ used rows memory end k
 
 abbrev μ-loop : tie.MeasureT-loop
-μ-loop memory₀ used rows end₀ k₀ memory end k = k
+μ-loop memory₀ used order sorted rows end₀ k₀ memory end k = k
 
 loop-holds : tie.Need-loop-holds Inv-loop μ-loop
-loop-holds c = record-start (c .before .before .args .memory .now) (c .before .before .args .used) (c .before .before .args .rows .now)
+loop-holds c = record-start (recallBy (c .before .before .before .args .sorted) (c .before .before .before .args .order .now) (take (c .before .before .before .args .used) (c .before .before .before .args .memory .now))) (c .before .before .before .args .memory .now) (c .before .before .before .args .used) (c .before .before .before .args .rows .now)
 
 sub-k : tie.Need-sub-k Inv-loop μ-loop
 sub-k c = search needs
@@ -42,36 +43,40 @@ put-status-requires c κs = search needs
 
 add-end : tie.Need-add-end Inv-loop μ-loop
 add-end c =
-    let a = c .before .before .before .before .before .before .before .before .before .before .before .before .before .args in
+    let a = c .before .before .before .before .before .before .before .before .before .before .before .before .before .before .args in
+    let look = recallBy (a .sorted) (a .order .now) in
     let l = c .before .before .before .before .before .before .before .before .before .before .loop in
-    omega (arith, record-fits (a .memory .now) (a .used) (a .rows .now) (l .memory) (l .end) (l .k) (l .inv) (c .before .before .before .before .before .before .before .before .before .before .before .before .before .pre) (c .before .before .before .before .before .before .before .before .before .loop-test .taken) (c .before .before .before .before .before .before .before .before .status-at .result) (c .before .before .before .before .before .before .before .before .status-at .ensures) (take (a .used - 0) (drop 0 (l .memory))) (part-old (a .used) (l .memory)) (c .before .before .before .before .before .is-fresh .result) (c .before .before .before .before .before .is-fresh .ensures) (c .before .before .before .before .if1 .taken))
+    omega (arith, record-fits look (a .memory .now) (a .used) (a .rows .now) (l .memory) (l .end) (l .k) (l .inv) (c .before .before .before .before .before .before .before .before .before .before .before .before .before .before .pre) (c .before .before .before .before .before .before .before .before .before .loop-test .taken) (c .before .before .before .before .before .before .before .before .status-at .result) (c .before .before .before .before .before .before .before .before .status-at .ensures) (take (a .used - 0) (drop 0 (l .memory))) (part-old (a .used) (l .memory)) (c .before .before .before .before .before .is-fresh .result) (c .before .before .before .before .before .is-fresh .ensures) (c .before .before .before .before .if1 .taken))
 
 loop-less : tie.Need-loop-less Inv-loop μ-loop
 loop-less c = search needs
 
 loop-again : tie.Need-loop-again Inv-loop μ-loop
 loop-again c =
-    let a = c .before .before .before .before .before .before .before .before .before .before .before .before .before .args in
+    let a = c .before .before .before .before .before .before .before .before .before .before .before .before .before .before .args in
+    let look = recallBy (a .sorted) (a .order .now) in
     let l = c .before .before .before .before .before .before .before .before .before .before .loop in
-    record-yes (a .memory .now) (a .used) (a .rows .now) (l .memory) (l .end) (l .k) (l .inv) (c .before .before .before .before .before .before .before .before .before .before .before .before .before .pre) (c .before .before .before .before .before .before .before .before .before .loop-test .taken) (c .before .before .before .before .before .before .before .before .status-at .result) (c .before .before .before .before .before .before .before .before .status-at .ensures) (take (a .used - 0) (drop 0 (l .memory))) (part-old (a .used) (l .memory)) (c .before .before .before .before .before .is-fresh .result) (c .before .before .before .before .before .is-fresh .ensures) (c .before .before .before .before .if1 .taken) (c .before .before .put-status .last .0) (c .before .before .put-status .ensures)
+    record-yes look (a .memory .now) (a .used) (a .rows .now) (l .memory) (l .end) (l .k) (l .inv) (c .before .before .before .before .before .before .before .before .before .before .before .before .before .before .pre) (c .before .before .before .before .before .before .before .before .before .loop-test .taken) (c .before .before .before .before .before .before .before .before .status-at .result) (c .before .before .before .before .before .before .before .before .status-at .ensures) (take (a .used - 0) (drop 0 (l .memory))) (part-old (a .used) (l .memory)) (c .before .before .before .before .before .is-fresh .result) (c .before .before .before .before .before .is-fresh .ensures) (c .before .before .before .before .if1 .taken) (c .before .before .put-status .last .0) (c .before .before .put-status .ensures)
 
 loop-less-2 : tie.Need-loop-less-2 Inv-loop μ-loop
 loop-less-2 c = search needs
 
 loop-again-2 : tie.Need-loop-again-2 Inv-loop μ-loop
 loop-again-2 c =
-    let a = c .before .before .before .before .before .before .before .before .before .args in
+    let a = c .before .before .before .before .before .before .before .before .before .before .args in
+    let look = recallBy (a .sorted) (a .order .now) in
     let l = c .before .before .before .before .before .before .loop in
-    record-no (a .memory .now) (a .used) (a .rows .now) (l .memory) (l .end) (l .k) (l .inv) (c .before .before .before .before .before .before .before .before .before .pre) (c .before .before .before .before .before .loop-test .taken) (c .before .before .before .before .status-at .result) (c .before .before .before .before .status-at .ensures) (take (a .used - 0) (drop 0 (l .memory))) (part-old (a .used) (l .memory)) (c .before .is-fresh .result) (c .before .is-fresh .ensures) (c .if1 .left)
+    record-no look (a .memory .now) (a .used) (a .rows .now) (l .memory) (l .end) (l .k) (l .inv) (c .before .before .before .before .before .before .before .before .before .before .pre) (c .before .before .before .before .before .loop-test .taken) (c .before .before .before .before .status-at .result) (c .before .before .before .before .status-at .ensures) (take (a .used - 0) (drop 0 (l .memory))) (part-old (a .used) (l .memory)) (c .before .is-fresh .result) (c .before .is-fresh .ensures) (c .if1 .left)
 
 same-length : tie.Need-same-length Inv-loop μ-loop
 same-length c = c .before .loop .inv .1
 
 returns : tie.Need-returns Inv-loop μ-loop
 returns c =
-    let a = c .before .before .before .before .args in
+    let a = c .before .before .before .before .before .args in
+    let look = recallBy (a .sorted) (a .order .now) in
     let l = c .before .loop in
-    record-done (a .memory .now) (a .used) (a .rows .now) (l .memory) (l .end) (l .k) (l .inv) (c .before .before .before .before .pre) (c .loop-test .left)
+    record-done look (a .memory .now) (a .used) (a .rows .now) (l .memory) (l .end) (l .k) (l .inv) (c .before .before .before .before .before .pre) (c .loop-test .left)
 
 pub append-spec : {M : Type 1} → statement M
 append-spec =

@@ -4,15 +4,15 @@ use borrow.Author.Needs.{needs}
 use lib.ListN.{length}
 use native.Mathlib.Omega.{arith}
 use Rattle.commit_walk.proofs.Recording.{CountFrom, count-end, count-no, count-yes}
-use Rattle.consensus.specs.Statuses.{statusesOf}
+use Rattle.commit_walk.specs.Rows.{recallBy}
 use Rattle.commit_walk.proofs.parts.count_fresh.Statement.{statement}
 use Rattle.commit_walk.proofs.parts.count_fresh.Tie as tie
 
 abbrev Inv-loop : tie.InvT-loop
-Inv-loop memory rows n₀ i₀ n i = CountFrom (statusesOf memory) rows n i
+Inv-loop memory order sorted rows n₀ i₀ n i = CountFrom (recallBy sorted order memory) rows n i
 
 abbrev μ-loop : tie.MeasureT-loop
-μ-loop memory rows n₀ i₀ n i = length rows - i
+μ-loop memory order sorted rows n₀ i₀ n i = length rows - i
 
 loop-holds : tie.Need-loop-holds Inv-loop μ-loop
 loop-holds c = (omega arith, omega arith, omega arith)
@@ -38,7 +38,7 @@ loop-less c = search needs
 loop-again : tie.Need-loop-again Inv-loop μ-loop
 loop-again c =
     let l = c .before .before .before .before .loop in
-    count-yes (statusesOf (c .before .before .before .before .before .before .before .args .memory .now)) (c .before .before .before .before .before .before .before .args .rows .now) (l .n) (l .i) (l .inv) (c .before .before .before .loop-test .taken) (c .before .before .status-at .result) (c .before .before .status-at .ensures) (c .before .is-fresh .result) (c .before .is-fresh .ensures) (c .if1 .taken)
+    count-yes (recallBy (c .before .before .before .before .before .before .before .before .args .sorted) (c .before .before .before .before .before .before .before .before .args .order .now) (c .before .before .before .before .before .before .before .before .args .memory .now)) (c .before .before .before .before .before .before .before .before .args .rows .now) (l .n) (l .i) (l .inv) (c .before .before .before .loop-test .taken) (c .before .before .status-at .result) (c .before .before .status-at .ensures) (c .before .is-fresh .result) (c .before .is-fresh .ensures) (c .if1 .taken)
 
 loop-less-2 : tie.Need-loop-less-2 Inv-loop μ-loop
 loop-less-2 c = search needs
@@ -46,12 +46,12 @@ loop-less-2 c = search needs
 loop-again-2 : tie.Need-loop-again-2 Inv-loop μ-loop
 loop-again-2 c =
     let l = c .before .before .before .before .loop in
-    count-no (statusesOf (c .before .before .before .before .before .before .before .args .memory .now)) (c .before .before .before .before .before .before .before .args .rows .now) (l .n) (l .i) (l .inv) (c .before .before .before .loop-test .taken) (c .before .before .status-at .result) (c .before .before .status-at .ensures) (c .before .is-fresh .result) (c .before .is-fresh .ensures) (c .if1 .left)
+    count-no (recallBy (c .before .before .before .before .before .before .before .before .args .sorted) (c .before .before .before .before .before .before .before .before .args .order .now) (c .before .before .before .before .before .before .before .before .args .memory .now)) (c .before .before .before .before .before .before .before .before .args .rows .now) (l .n) (l .i) (l .inv) (c .before .before .before .loop-test .taken) (c .before .before .status-at .result) (c .before .before .status-at .ensures) (c .before .is-fresh .result) (c .before .is-fresh .ensures) (c .if1 .left)
 
 returns : tie.Need-returns Inv-loop μ-loop
 returns c =
     let l = c .before .loop in
-    count-end (statusesOf (c .before .before .before .before .args .memory .now)) (c .before .before .before .before .args .rows .now) (l .n) (l .i) (l .inv) (c .loop-test .left)
+    count-end (recallBy (c .before .before .before .before .before .args .sorted) (c .before .before .before .before .before .args .order .now) (c .before .before .before .before .before .args .memory .now)) (c .before .before .before .before .before .args .rows .now) (l .n) (l .i) (l .inv) (c .loop-test .left)
 
 pub count-fresh-spec : {M : Type 1} → statement M
 count-fresh-spec =

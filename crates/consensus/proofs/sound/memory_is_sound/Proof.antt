@@ -1,58 +1,28 @@
--- `memory_is_sound` meets its contract: one law for each test that ends it. Assumes nothing.
+-- `memory_is_sound` meets its contract: all but the positions, then these. Assumes nothing.
 use borrow.Author.Needs.{needs}
 use borrow.Author.Tests.{not-true, not-false}
 use mathlib.Core.Path.{sym, _∙_}
-use Rattle.consensus.proofs.Soundness.{memory-broken, memory-short, memory-unfit, memory-twice, memory-rest}
+use Rattle.consensus.proofs.Soundness.{memory-stops, memory-says}
 use Rattle.consensus.proofs.sound.memory_is_sound.Statement.{statement}
 use Rattle.consensus.proofs.sound.memory_is_sound.Tie as tie
 
+memory-is-sound-but-twins-requires : tie.Need-memory-is-sound-but-twins-requires
+memory-is-sound-but-twins-requires c κs = search needs
+
 returns : tie.Need-returns
 returns c =
-    let a = c .before .before .before .args in
-    memory-broken (a .size) (a .blocks .now) (a .stored) (a .memory .now) (a .count) (c .if1 .taken)
-
-returns-2 : tie.Need-returns-2
-returns-2 c =
     let a = c .before .before .before .before .args in
-    memory-short (a .size) (a .blocks .now) (a .stored) (a .memory .now) (a .count) (c .if2 .taken)
-
-rows-fit-requires : tie.Need-rows-fit-requires
-rows-fit-requires c κs = search needs
-
-returns-3 : tie.Need-returns-3
-returns-3 c =
-    let a = c .before .before .before .before .before .before .args in
-    memory-unfit (a .size) (a .blocks .now) (a .stored) (a .memory .now) (a .count) (c .before .before .before .if1 .left) (c .before .before .if2 .left) (sym (c .before .rows-fit .ensures) ∙ not-true _ (c .if3 .taken))
+    memory-stops (a .size) (a .blocks .now) (a .stored) (a .memory .now) (a .count) (sym (c .before .memory-is-sound-but-twins .ensures) ∙ not-true _ (c .if1 .taken))
 
 positions-differ-requires : tie.Need-positions-differ-requires
 positions-differ-requires c κs = search needs
 
-returns-4 : tie.Need-returns-4
-returns-4 c =
-    let a = c .before .before .before .before .before .before .before .before .args in
-    memory-twice (a .size) (a .blocks .now) (a .stored) (a .memory .now) (a .count) (c .before .before .before .before .before .if1 .left) (c .before .before .before .before .if2 .left) (sym (c .before .before .before .rows-fit .ensures) ∙ not-false _ (c .before .before .if3 .left)) (sym (c .before .positions-differ .ensures) ∙ not-true _ (c .if4 .taken))
-
-mul-zero-from : tie.Need-mul-zero-from
-mul-zero-from c = search needs
-
-zero-from-requires : tie.Need-zero-from-requires
-zero-from-requires c κs = search needs
-
-returns-5 : tie.Need-returns-5
-returns-5 c =
-    let a = c .before .before .before .before .before .before .before .before .before .args in
-    memory-rest (a .size) (a .blocks .now) (a .stored) (a .memory .now) (a .count) (c .before .before .before .before .before .before .if1 .left) (c .before .before .before .before .before .if2 .left) (sym (c .before .before .before .before .rows-fit .ensures) ∙ not-false _ (c .before .before .before .if3 .left)) (sym (c .before .before .positions-differ .ensures) ∙ not-false _ (c .before .if4 .left)) _ (c .zero-from .ensures)
+returns-2 : tie.Need-returns-2
+returns-2 c =
+    let a = c .before .before .before .before .before .args in
+    memory-says (a .size) (a .blocks .now) (a .stored) (a .memory .now) (a .count) (sym (c .before .before .memory-is-sound-but-twins .ensures) ∙ not-false _ (c .before .if1 .left)) _ (c .positions-differ .ensures)
 
 pub memory-is-sound-spec : {M : Type 1} → statement M
 memory-is-sound-spec =
     tie.close
-    (tie.spec
-    returns
-    returns-2
-    rows-fit-requires
-    returns-3
-    positions-differ-requires
-    returns-4
-    mul-zero-from
-    zero-from-requires
-    returns-5)
+    (tie.spec memory-is-sound-but-twins-requires returns positions-differ-requires returns-2)

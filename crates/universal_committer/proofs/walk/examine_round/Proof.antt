@@ -11,24 +11,24 @@ use Rattle.universal_committer.proofs.walk.examine_round.Statement.{sta
 use Rattle.universal_committer.proofs.walk.examine_round.Tie as tie
 
 abbrev Inv-loop : tie.InvT-loop
-Inv-loop blocks includes stored stakes floor options size memory round area₀ from work₀ first₀ j₀ area work first j = RoundFrom (storeOf blocks includes stored) stakes (floor .0) options size (statusesOf memory) (round .0) area₀ from work₀ area work first j
+Inv-loop blocks includes stored order stakes floor options size memory places sorted round area₀ from work₀ first₀ j₀ area work first j = RoundFrom (storeOf blocks includes stored) stakes (floor .0) options size (statusesOf memory) (round .0) area₀ from work₀ area work first j
 
 abbrev μ-loop : tie.MeasureT-loop
-μ-loop blocks includes stored stakes floor options size memory round area₀ from work₀ first₀ j₀ area work first j = j
+μ-loop blocks includes stored order stakes floor options size memory places sorted round area₀ from work₀ first₀ j₀ area work first j = j
 
 committer-count-requires : tie.Need-committer-count-requires Inv-loop μ-loop
-committer-count-requires c κs = c .before .before .before .before .before .before .pre .0
+committer-count-requires c κs = c .before .before .before .before .before .before .before .before .pre .0
 
 loop-holds : tie.Need-loop-holds Inv-loop μ-loop
 loop-holds c =
-    let a = c .before .before .before .before .before .before .before .args in
-    round-start (storeOf (a .blocks .now) (a .includes .now) (a .stored)) (a .stakes .now) (a .floor .0) (a .options) (a .size) (statusesOf (a .memory .now)) (a .round .0) (a .area .now) (a .from) (a .work .now) (c .committer-count .result) (c .before .before .before .before .before .before .before .pre .1 .0 .0) (c .before .before .before .before .before .before .before .pre .1 .0 .1) (c .before .before .before .before .before .before .before .pre .1 .1) (c .committer-count .ensures)
+    let a = c .before .before .before .before .before .before .before .before .before .args in
+    round-start (storeOf (a .blocks .now) (a .includes .now) (a .stored)) (a .stakes .now) (a .floor .0) (a .options) (a .size) (statusesOf (a .memory .now)) (a .round .0) (a .area .now) (a .from) (a .work .now) (c .committer-count .result) (c .before .before .before .before .before .before .before .before .before .pre .1 .0 .0) (c .before .before .before .before .before .before .before .before .before .pre .1 .0 .1) (c .before .before .before .before .before .before .before .before .before .pre .1 .1 .0) (c .committer-count .ensures)
 
 sub-j : tie.Need-sub-j Inv-loop μ-loop
 sub-j c = search needs
 
 committer-requires : tie.Need-committer-requires Inv-loop μ-loop
-committer-requires c κs = c .before .before .before .before .before .before .before .before .before .pre .0
+committer-requires c κs = c .before .before .before .before .before .before .before .before .before .before .before .pre .0
 
 elected-requires : tie.Need-elected-requires Inv-loop μ-loop
 elected-requires c κs = search needs
@@ -44,14 +44,14 @@ loop-less c = search needs
 
 loop-again : tie.Need-loop-again Inv-loop μ-loop
 loop-again c =
-    let a = c .before .before .before .before .before .before .before .before .before .before .before .before .before .args in
+    let a = c .before .before .before .before .before .before .before .before .before .before .before .before .before .before .before .args in
     let l = c .before .before .before .before .before .loop in
     round-nobody (storeOf (a .blocks .now) (a .includes .now) (a .stored)) (a .stakes .now) (a .floor .0) (a .options) (a .size) (statusesOf (a .memory .now)) (a .round .0) (a .area .now) (a .from) (a .work .now) (l .area) (l .work) (l .first) (l .j) (l .inv) (c .before .before .before .before .loop-test .taken) (c .before .before .before .committer .result) (c .before .before .before .committer .ensures) (c .before .before .elected .result) (c .before .before .elected .ensures) (c .enum-told .given .1)
 
 mul-decision-at : tie.Need-mul-decision-at Inv-loop μ-loop
 mul-decision-at c =
-    let g = c .before .before .before .before .before .before .before .before .before .before .before .before .before .before .good in
-    let f = c .before .before .before .before .before .before .before .before .before .before .before .before .before .before .fits in
+    let g = c .before .before .before .before .before .before .before .before .before .before .before .before .before .before .before .before .good in
+    let f = c .before .before .before .before .before .before .before .before .before .before .before .before .before .before .before .before .fits in
     omega (arith, c .before .before .before .before .before .before .loop .inv .within, c .before .before .before .before .before .before .loop .inv .same)
 
 sub-decision-at : tie.Need-sub-decision-at Inv-loop μ-loop
@@ -64,7 +64,7 @@ part-decision-at-end : tie.Need-part-decision-at-end Inv-loop μ-loop
 part-decision-at-end c = search needs
 
 decision-at-requires : tie.Need-decision-at-requires Inv-loop μ-loop
-decision-at-requires c κs = zeros-own (c .before .before .before .before .before .before .before .before .before .before .before .before .before .before .before .before .before .args .work .now) (c .before .before .before .before .before .before .before .before .before .loop .work) (c .before .before .before .before .before .before .before .before .before .loop .inv .zeros)
+decision-at-requires c κs = (zeros-own (c .before .before .before .before .before .before .before .before .before .before .before .before .before .before .before .before .before .before .before .args .work .now) (c .before .before .before .before .before .before .before .before .before .loop .work) (c .before .before .before .before .before .before .before .before .before .loop .inv .zeros), (c .before .before .before .before .before .before .before .before .before .before .before .before .before .before .before .before .before .before .before .pre .1 .1 .1 .0, c .before .before .before .before .before .before .before .before .before .before .before .before .before .before .before .before .before .before .before .pre .1 .1 .1 .1))
 
 enum-known-found : tie.Need-enum-known-found Inv-loop μ-loop
 enum-known-found c = search needs
@@ -76,17 +76,17 @@ same-length : tie.Need-same-length Inv-loop μ-loop
 same-length c = c .before .before .before .before .before .before .before .before .before .before .before .before .before .before .loop .inv .same
 
 same-length-2 : tie.Need-same-length-2 Inv-loop μ-loop
-same-length-2 c = c .before .before .before .before .decision-at .kept .1 .1 .1 .1 .1 .1 .1 .1 .1 .0 ∙ zeros-length (c .before .before .before .before .before .before .before .before .before .before .before .before .before .before .before .before .before .before .before .before .before .before .args .work .now) (c .before .before .before .before .before .before .before .before .before .before .before .before .before .before .loop .work) (c .before .before .before .before .before .before .before .before .before .before .before .before .before .before .loop .inv .zeros)
+same-length-2 c = c .before .before .before .before .decision-at .kept .1 .1 .1 .1 .1 .1 .1 .1 .1 .1 .1 .1 .0 ∙ zeros-length (c .before .before .before .before .before .before .before .before .before .before .before .before .before .before .before .before .before .before .before .before .before .before .before .before .args .work .now) (c .before .before .before .before .before .before .before .before .before .before .before .before .before .before .loop .work) (c .before .before .before .before .before .before .before .before .before .before .before .before .before .before .loop .inv .zeros)
 
 returns : tie.Need-returns Inv-loop μ-loop
 returns c =
-    let a = c .before .before .before .before .before .before .before .before .before .before .before .before .before .before .before .before .before .before .before .before .before .before .args in
+    let a = c .before .before .before .before .before .before .before .before .before .before .before .before .before .before .before .before .before .before .before .before .before .before .before .before .args in
     let l = c .before .before .before .before .before .before .before .before .before .before .before .before .before .before .loop in
-    (round-two (storeOf (a .blocks .now) (a .includes .now) (a .stored)) (a .stakes .now) (a .floor .0) (a .options) (a .size) (statusesOf (a .memory .now)) (a .round .0) (a .area .now) (a .from) (a .work .now) (l .area) (l .work) (l .first) (l .j) (l .inv) (c .before .before .before .before .before .before .before .before .before .before .before .before .before .loop-test .taken) (c .before .before .before .before .before .before .before .before .before .before .before .before .committer .result) (c .before .before .before .before .before .before .before .before .before .before .before .before .committer .ensures) (c .before .before .before .before .before .before .before .before .before .before .before .elected .result) (c .before .before .before .before .before .before .before .before .before .before .before .elected .ensures) _ (c .before .before .before .before .before .before .before .before .before .leader .given .1) (take (length (l .area) - l .first) (drop (l .first) (l .area))) (tail-is (l .area) (l .first)) (c .before .before .before .before .decision-at .result) (c .before .before .before .before .decision-at .ensures .0) _ (c .enum-told2 .given .1), (tt, zeros-kept (a .work .now) (l .work) (c .before .before .before .before .decision-at .last .1 .1 .1 .1 .1 .1 .1 .1 .1 .0) (l .inv .zeros) (c .before .before .before .before .decision-at .ensures .1)))
+    (round-two (storeOf (a .blocks .now) (a .includes .now) (a .stored)) (a .stakes .now) (a .floor .0) (a .options) (a .size) (statusesOf (a .memory .now)) (a .round .0) (a .area .now) (a .from) (a .work .now) (l .area) (l .work) (l .first) (l .j) (l .inv) (c .before .before .before .before .before .before .before .before .before .before .before .before .before .loop-test .taken) (c .before .before .before .before .before .before .before .before .before .before .before .before .committer .result) (c .before .before .before .before .before .before .before .before .before .before .before .before .committer .ensures) (c .before .before .before .before .before .before .before .before .before .before .before .elected .result) (c .before .before .before .before .before .before .before .before .before .before .before .elected .ensures) _ (c .before .before .before .before .before .before .before .before .before .leader .given .1) (take (length (l .area) - l .first) (drop (l .first) (l .area))) (tail-is (l .area) (l .first)) (c .before .before .before .before .decision-at .result) (c .before .before .before .before .decision-at .ensures .0) _ (c .enum-told2 .given .1), (tt, zeros-kept (a .work .now) (l .work) (c .before .before .before .before .decision-at .last .1 .1 .1 .1 .1 .1 .1 .1 .1 .1 .1 .1 .0) (l .inv .zeros) (c .before .before .before .before .decision-at .ensures .1)))
 
 sub-first : tie.Need-sub-first Inv-loop μ-loop
 sub-first c =
-    let a = c .before .before .before .before .before .before .before .before .before .before .before .before .before .before .before .before .before .before .before .before .before .before .before .args in
+    let a = c .before .before .before .before .before .before .before .before .before .before .before .before .before .before .before .before .before .before .before .before .before .before .before .before .before .args in
     let l = c .before .before .before .before .before .before .before .before .before .before .before .before .before .before .before .loop in
     omega (arith, round-room (storeOf (a .blocks .now) (a .includes .now) (a .stored)) (a .stakes .now) (a .floor .0) (a .options) (a .size) (statusesOf (a .memory .now)) (a .round .0) (a .area .now) (a .from) (a .work .now) (l .area) (l .work) (l .first) (l .j) (l .inv) (c .before .before .before .before .before .before .before .before .before .before .before .before .before .before .loop-test .taken) (c .before .before .before .before .before .before .before .before .before .before .before .before .before .committer .result) (c .before .before .before .before .before .before .before .before .before .before .before .before .before .committer .ensures) (c .before .before .before .before .before .before .before .before .before .before .before .before .elected .result) (c .before .before .before .before .before .before .before .before .before .before .before .before .elected .ensures) _ (c .before .before .before .before .before .before .before .before .before .before .leader .given .1))
 
@@ -98,19 +98,19 @@ loop-less-2 c = search needs
 
 loop-again-2 : tie.Need-loop-again-2 Inv-loop μ-loop
 loop-again-2 c =
-    let a = c .before .before .before .before .before .before .before .before .before .before .before .before .before .before .before .before .before .before .before .before .before .before .before .before .before .before .before .args in
+    let a = c .before .before .before .before .before .before .before .before .before .before .before .before .before .before .before .before .before .before .before .before .before .before .before .before .before .before .before .before .before .args in
     let l = c .before .before .before .before .before .before .before .before .before .before .before .before .before .before .before .before .before .before .before .loop in
-    round-push (storeOf (a .blocks .now) (a .includes .now) (a .stored)) (a .stakes .now) (a .floor .0) (a .options) (a .size) (statusesOf (a .memory .now)) (a .round .0) (a .area .now) (a .from) (a .work .now) (l .area) (l .work) (l .first) (l .j) (l .inv) (c .before .before .before .before .before .before .before .before .before .before .before .before .before .before .before .before .before .before .loop-test .taken) (c .before .before .before .before .before .before .before .before .before .before .before .before .before .before .before .before .before .committer .result) (c .before .before .before .before .before .before .before .before .before .before .before .before .before .before .before .before .before .committer .ensures) (c .before .before .before .before .before .before .before .before .before .before .before .before .before .before .before .before .elected .result) (c .before .before .before .before .before .before .before .before .before .before .before .before .before .before .before .before .elected .ensures) _ (c .before .before .before .before .before .before .before .before .before .before .before .before .before .before .leader .given .1) (take (length (l .area) - l .first) (drop (l .first) (l .area))) (tail-is (l .area) (l .first)) (c .before .before .before .before .before .before .before .before .before .decision-at .result) (c .before .before .before .before .before .before .before .before .before .decision-at .ensures .0) _ (c .before .before .put-status .last .0) (c .before .before .before .before .before .before .before .before .before .decision-at .last .1 .1 .1 .1 .1 .1 .1 .1 .1 .0) (c .before .before .before .before .before .found .given .1) (c .before .before .before .before .before .before .before .before .before .decision-at .ensures .1) (c .before .before .put-status .ensures)
+    round-push (storeOf (a .blocks .now) (a .includes .now) (a .stored)) (a .stakes .now) (a .floor .0) (a .options) (a .size) (statusesOf (a .memory .now)) (a .round .0) (a .area .now) (a .from) (a .work .now) (l .area) (l .work) (l .first) (l .j) (l .inv) (c .before .before .before .before .before .before .before .before .before .before .before .before .before .before .before .before .before .before .loop-test .taken) (c .before .before .before .before .before .before .before .before .before .before .before .before .before .before .before .before .before .committer .result) (c .before .before .before .before .before .before .before .before .before .before .before .before .before .before .before .before .before .committer .ensures) (c .before .before .before .before .before .before .before .before .before .before .before .before .before .before .before .before .elected .result) (c .before .before .before .before .before .before .before .before .before .before .before .before .before .before .before .before .elected .ensures) _ (c .before .before .before .before .before .before .before .before .before .before .before .before .before .before .leader .given .1) (take (length (l .area) - l .first) (drop (l .first) (l .area))) (tail-is (l .area) (l .first)) (c .before .before .before .before .before .before .before .before .before .decision-at .result) (c .before .before .before .before .before .before .before .before .before .decision-at .ensures .0) _ (c .before .before .put-status .last .0) (c .before .before .before .before .before .before .before .before .before .decision-at .last .1 .1 .1 .1 .1 .1 .1 .1 .1 .1 .1 .1 .0) (c .before .before .before .before .before .found .given .1) (c .before .before .before .before .before .before .before .before .before .decision-at .ensures .1) (c .before .before .put-status .ensures)
 
 same-length-3 : tie.Need-same-length-3 Inv-loop μ-loop
 same-length-3 c = c .before .loop .inv .same
 
 same-length-4 : tie.Need-same-length-4 Inv-loop μ-loop
-same-length-4 c = zeros-length (c .before .before .before .before .before .before .before .before .before .args .work .now) (c .before .loop .work) (c .before .loop .inv .zeros)
+same-length-4 c = zeros-length (c .before .before .before .before .before .before .before .before .before .before .before .args .work .now) (c .before .loop .work) (c .before .loop .inv .zeros)
 
 returns-2 : tie.Need-returns-2 Inv-loop μ-loop
 returns-2 c =
-    let a = c .before .before .before .before .before .before .before .before .before .args in
+    let a = c .before .before .before .before .before .before .before .before .before .before .before .args in
     let l = c .before .loop in
     (round-done (storeOf (a .blocks .now) (a .includes .now) (a .stored)) (a .stakes .now) (a .floor .0) (a .options) (a .size) (statusesOf (a .memory .now)) (a .round .0) (a .area .now) (a .from) (a .work .now) (l .area) (l .work) (l .first) (l .j) (l .inv) (c .loop-test .left), (round-left (storeOf (a .blocks .now) (a .includes .now) (a .stored)) (a .stakes .now) (a .floor .0) (a .options) (a .size) (statusesOf (a .memory .now)) (a .round .0) (a .area .now) (a .from) (a .work .now) (l .area) (l .work) (l .first) (l .j) (l .inv) (c .loop-test .left), l .inv .zeros))
 

@@ -9,27 +9,27 @@ use Rattle.universal_committer.proofs.walk.examine_rounds.Statement.{st
 use Rattle.universal_committer.proofs.walk.examine_rounds.Tie as tie
 
 abbrev Inv-loop : tie.InvT-loop
-Inv-loop blocks includes stored stakes floor options size memory low rounds area₀ work₀ first₀ n₀ area work first n = RoundsFrom (storeOf blocks includes stored) stakes (floor .0) options size (statusesOf memory) (low .0) rounds area₀ work₀ area work first n
+Inv-loop blocks includes stored order stakes floor options size memory places sorted low rounds area₀ work₀ first₀ n₀ area work first n = RoundsFrom (storeOf blocks includes stored) stakes (floor .0) options size (statusesOf memory) (low .0) rounds area₀ work₀ area work first n
 
 abbrev μ-loop : tie.MeasureT-loop
-μ-loop blocks includes stored stakes floor options size memory low rounds area₀ work₀ first₀ n₀ area work first n = n
+μ-loop blocks includes stored order stakes floor options size memory places sorted low rounds area₀ work₀ first₀ n₀ area work first n = n
 
 loop-holds : tie.Need-loop-holds Inv-loop μ-loop
 loop-holds c =
-    let a = c .before .before .before .before .before .before .args in
-    rounds-start (storeOf (a .blocks .now) (a .includes .now) (a .stored)) (a .stakes .now) (a .floor .0) (a .options) (a .size) (statusesOf (a .memory .now)) (a .low .0) (a .rounds) (a .area .now) (a .work .now) (c .before .before .before .before .before .before .pre .1 .0 .1) (c .before .before .before .before .before .before .pre .1 .1)
+    let a = c .before .before .before .before .before .before .before .before .args in
+    rounds-start (storeOf (a .blocks .now) (a .includes .now) (a .stored)) (a .stakes .now) (a .floor .0) (a .options) (a .size) (statusesOf (a .memory .now)) (a .low .0) (a .rounds) (a .area .now) (a .work .now) (c .before .before .before .before .before .before .before .before .pre .1 .0 .1) (c .before .before .before .before .before .before .before .before .pre .1 .1 .0)
 
 sub-n : tie.Need-sub-n Inv-loop μ-loop
 sub-n c = search needs
 
-add-t18 : tie.Need-add-t18 Inv-loop μ-loop
-add-t18 c = omega (arith, c .before .before .before .before .before .before .before .before .before .pre .1 .0 .0, c .before .before .loop .inv .count)
+add-t21 : tie.Need-add-t21 Inv-loop μ-loop
+add-t21 c = omega (arith, c .before .before .before .before .before .before .before .before .before .before .before .pre .1 .0 .0, c .before .before .loop .inv .count)
 
 examine-round-requires : tie.Need-examine-round-requires Inv-loop μ-loop
 examine-round-requires c κs =
-    let a = c .before .before .before .before .before .before .before .before .before .before .before .args in
+    let a = c .before .before .before .before .before .before .before .before .before .before .before .before .before .args in
     let l = c .before .before .before .before .loop in
-    (c .before .before .before .before .before .before .before .before .before .before .before .pre .0, ((l .inv .within, rounds-room (storeOf (a .blocks .now) (a .includes .now) (a .stored)) (a .stakes .now) (a .floor .0) (a .options) (a .size) (statusesOf (a .memory .now)) (a .low .0) (a .rounds) (a .area .now) (a .work .now) (l .area) (l .work) (l .first) (l .n) (l .inv) (c .before .before .before .loop-test .taken)), zeros-own (a .work .now) (l .work) (l .inv .zeros)))
+    (c .before .before .before .before .before .before .before .before .before .before .before .before .before .pre .0, ((l .inv .within, rounds-room (storeOf (a .blocks .now) (a .includes .now) (a .stored)) (a .stakes .now) (a .floor .0) (a .options) (a .size) (statusesOf (a .memory .now)) (a .low .0) (a .rounds) (a .area .now) (a .work .now) (l .area) (l .work) (l .first) (l .n) (l .inv) (c .before .before .before .loop-test .taken)), (zeros-own (a .work .now) (l .work) (l .inv .zeros), (c .before .before .before .before .before .before .before .before .before .before .before .before .before .pre .1 .1 .1 .0, c .before .before .before .before .before .before .before .before .before .before .before .before .before .pre .1 .1 .1 .1))))
 
 enum-known-found : tie.Need-enum-known-found Inv-loop μ-loop
 enum-known-found c = search needs
@@ -39,34 +39,34 @@ loop-less c = search needs
 
 loop-again : tie.Need-loop-again Inv-loop μ-loop
 loop-again c =
-    let a = c .before .before .before .before .before .before .before .before .before .before .before .before .before .before .before .before .before .before .before .args in
+    let a = c .before .before .before .before .before .before .before .before .before .before .before .before .before .before .before .before .before .before .before .before .before .args in
     let l = c .before .before .before .before .before .before .before .before .before .before .before .before .loop in
-    rounds-next (storeOf (a .blocks .now) (a .includes .now) (a .stored)) (a .stakes .now) (a .floor .0) (a .options) (a .size) (statusesOf (a .memory .now)) (a .low .0) (a .rounds) (a .area .now) (a .work .now) (l .area) (l .work) (l .first) (l .n) (l .inv) (c .before .before .before .before .before .before .before .before .before .before .before .loop-test .taken) (c .before .before .before .before .before .before .before .examine-round .result) (c .before .before .before .before .before .before .before .examine-round .last .1 .1 .1 .1 .1 .1 .1 .1 .1 .0) (c .before .before .before .before .before .before .before .examine-round .ensures .0) _ (c .before .before .before .before .before .before .before .examine-round .last .1 .1 .1 .1 .1 .1 .1 .1 .1 .1 .1 .0) (c .before .found .given .1) (c .before .before .before .before .before .before .before .examine-round .ensures .1 .0) (c .before .before .before .before .before .before .before .examine-round .kept .1 .1 .1 .1 .1 .1 .1 .1 .1 .0) (c .before .before .before .before .before .before .before .examine-round .ensures .1 .1)
+    rounds-next (storeOf (a .blocks .now) (a .includes .now) (a .stored)) (a .stakes .now) (a .floor .0) (a .options) (a .size) (statusesOf (a .memory .now)) (a .low .0) (a .rounds) (a .area .now) (a .work .now) (l .area) (l .work) (l .first) (l .n) (l .inv) (c .before .before .before .before .before .before .before .before .before .before .before .loop-test .taken) (c .before .before .before .before .before .before .before .examine-round .result) (c .before .before .before .before .before .before .before .examine-round .last .1 .1 .1 .1 .1 .1 .1 .1 .1 .1 .1 .1 .0) (c .before .before .before .before .before .before .before .examine-round .ensures .0) _ (c .before .before .before .before .before .before .before .examine-round .last .1 .1 .1 .1 .1 .1 .1 .1 .1 .1 .1 .1 .1 .1 .0) (c .before .found .given .1) (c .before .before .before .before .before .before .before .examine-round .ensures .1 .0) (c .before .before .before .before .before .before .before .examine-round .kept .1 .1 .1 .1 .1 .1 .1 .1 .1 .1 .1 .1 .0) (c .before .before .before .before .before .before .before .examine-round .ensures .1 .1)
 
 enum-told : tie.Need-enum-told Inv-loop μ-loop
 enum-told c = search needs
 
 same-length : tie.Need-same-length Inv-loop μ-loop
-same-length c = c .before .before .before .before .before .before .examine-round .kept .1 .1 .1 .1 .1 .1 .1 .1 .1 .0 ∙ c .before .before .before .before .before .before .before .before .before .before .before .loop .inv .same
+same-length c = c .before .before .before .before .before .before .examine-round .kept .1 .1 .1 .1 .1 .1 .1 .1 .1 .1 .1 .1 .0 ∙ c .before .before .before .before .before .before .before .before .before .before .before .loop .inv .same
 
 same-length-2 : tie.Need-same-length-2 Inv-loop μ-loop
-same-length-2 c = c .before .before .before .before .before .before .examine-round .kept .1 .1 .1 .1 .1 .1 .1 .1 .1 .1 .1 .0 ∙ zeros-length (c .before .before .before .before .before .before .before .before .before .before .before .before .before .before .before .before .before .before .args .work .now) (c .before .before .before .before .before .before .before .before .before .before .before .loop .work) (c .before .before .before .before .before .before .before .before .before .before .before .loop .inv .zeros)
+same-length-2 c = c .before .before .before .before .before .before .examine-round .kept .1 .1 .1 .1 .1 .1 .1 .1 .1 .1 .1 .1 .1 .1 .0 ∙ zeros-length (c .before .before .before .before .before .before .before .before .before .before .before .before .before .before .before .before .before .before .before .before .args .work .now) (c .before .before .before .before .before .before .before .before .before .before .before .loop .work) (c .before .before .before .before .before .before .before .before .before .before .before .loop .inv .zeros)
 
 returns : tie.Need-returns Inv-loop μ-loop
 returns c =
-    let a = c .before .before .before .before .before .before .before .before .before .before .before .before .before .before .before .before .before .before .args in
+    let a = c .before .before .before .before .before .before .before .before .before .before .before .before .before .before .before .before .before .before .before .before .args in
     let l = c .before .before .before .before .before .before .before .before .before .before .before .loop in
-    (rounds-two (storeOf (a .blocks .now) (a .includes .now) (a .stored)) (a .stakes .now) (a .floor .0) (a .options) (a .size) (statusesOf (a .memory .now)) (a .low .0) (a .rounds) (a .area .now) (a .work .now) (l .area) (l .work) (l .first) (l .n) (l .inv) (c .before .before .before .before .before .before .before .before .before .before .loop-test .taken) (c .before .before .before .before .before .before .examine-round .result) (c .before .before .before .before .before .before .examine-round .last .1 .1 .1 .1 .1 .1 .1 .1 .1 .0) (c .before .before .before .before .before .before .examine-round .ensures .0) (c .enum-told .given .1), (tt, zeros-kept (a .work .now) (l .work) (c .before .before .before .before .before .before .examine-round .last .1 .1 .1 .1 .1 .1 .1 .1 .1 .1 .1 .0) (l .inv .zeros) (c .before .before .before .before .before .before .examine-round .ensures .1 .1)))
+    (rounds-two (storeOf (a .blocks .now) (a .includes .now) (a .stored)) (a .stakes .now) (a .floor .0) (a .options) (a .size) (statusesOf (a .memory .now)) (a .low .0) (a .rounds) (a .area .now) (a .work .now) (l .area) (l .work) (l .first) (l .n) (l .inv) (c .before .before .before .before .before .before .before .before .before .before .loop-test .taken) (c .before .before .before .before .before .before .examine-round .result) (c .before .before .before .before .before .before .examine-round .last .1 .1 .1 .1 .1 .1 .1 .1 .1 .1 .1 .1 .0) (c .before .before .before .before .before .before .examine-round .ensures .0) (c .enum-told .given .1), (tt, zeros-kept (a .work .now) (l .work) (c .before .before .before .before .before .before .examine-round .last .1 .1 .1 .1 .1 .1 .1 .1 .1 .1 .1 .1 .1 .1 .0) (l .inv .zeros) (c .before .before .before .before .before .before .examine-round .ensures .1 .1)))
 
 same-length-3 : tie.Need-same-length-3 Inv-loop μ-loop
 same-length-3 c = c .before .loop .inv .same
 
 same-length-4 : tie.Need-same-length-4 Inv-loop μ-loop
-same-length-4 c = zeros-length (c .before .before .before .before .before .before .before .before .args .work .now) (c .before .loop .work) (c .before .loop .inv .zeros)
+same-length-4 c = zeros-length (c .before .before .before .before .before .before .before .before .before .before .args .work .now) (c .before .loop .work) (c .before .loop .inv .zeros)
 
 returns-2 : tie.Need-returns-2 Inv-loop μ-loop
 returns-2 c =
-    let a = c .before .before .before .before .before .before .before .before .args in
+    let a = c .before .before .before .before .before .before .before .before .before .before .args in
     let l = c .before .loop in
     (rounds-done (storeOf (a .blocks .now) (a .includes .now) (a .stored)) (a .stakes .now) (a .floor .0) (a .options) (a .size) (statusesOf (a .memory .now)) (a .low .0) (a .rounds) (a .area .now) (a .work .now) (l .area) (l .work) (l .first) (l .n) (l .inv) (c .loop-test .left), (rounds-left (storeOf (a .blocks .now) (a .includes .now) (a .stored)) (a .stakes .now) (a .floor .0) (a .options) (a .size) (statusesOf (a .memory .now)) (a .low .0) (a .rounds) (a .area .now) (a .work .now) (l .area) (l .work) (l .first) (l .n) (l .inv) (c .loop-test .left), l .inv .zeros))
 
@@ -78,7 +78,7 @@ examine-rounds-spec =
     μ-loop
     loop-holds
     sub-n
-    add-t18
+    add-t21
     examine-round-requires
     enum-known-found
     loop-less

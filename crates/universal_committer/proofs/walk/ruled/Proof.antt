@@ -16,9 +16,9 @@ is-ruled-requires c κs = search needs
 
 returns : tie.Need-returns
 returns c =
-    let a = c .before .before .before .before .before .before .before .before .before .before .args in
+    let a = c .before .before .before .before .before .before .before .before .before .before .before .args in
     let s = storeOf (a .blocks .now) (a .includes .now) (a .stored) in
-    (ruled-direct s (linkedIn s (length (a .work .now))) (a .stakes .now) (a .floor .0) (a .base) (a .place .authority .0) (a .place .round .0) (statusesOf (a .later .now)) (c .before .before .direct-decision .result) (c .before .before .direct-decision .ensures) (c .before .is-ruled .result) (c .before .is-ruled .ensures) (c .if1 .taken), c .before .before .before .before .before .before .before .before .before .before .pre)
+    (ruled-direct s (a .order .now) (c .before .before .before .before .before .before .before .before .before .before .before .pre .1) (linkedIn s (length (a .work .now))) (a .stakes .now) (a .floor .0) (a .base) (a .place .authority .0) (a .place .round .0) (statusesOf (a .later .now)) (c .before .before .direct-decision .result) (c .before .before .direct-decision .ensures) (c .before .is-ruled .result) (c .before .is-ruled .ensures) (c .if1 .taken), c .before .before .before .before .before .before .before .before .before .before .before .pre .0)
 
 indirect-decision-requires : tie.Need-indirect-decision-requires
 indirect-decision-requires c κs = search needs
@@ -28,9 +28,9 @@ same-length c = search needs
 
 returns-2 : tie.Need-returns-2
 returns-2 c =
-    let a = c .before .before .before .before .before .before .before .before .before .before .before .before .before .before .args in
+    let a = c .before .before .before .before .before .before .before .before .before .before .before .before .before .before .before .args in
     let s = storeOf (a .blocks .now) (a .includes .now) (a .stored) in
-    (ruled-indirect s (linkedIn s (length (a .work .now))) (a .stakes .now) (a .floor .0) (a .base) (a .place .authority .0) (a .place .round .0) (statusesOf (a .later .now)) (c .before .before .before .before .before .before .direct-decision .result) (c .before .before .before .before .before .before .direct-decision .ensures) (c .before .before .before .before .before .is-ruled .result) (c .before .before .before .before .before .is-ruled .ensures) (c .before .before .indirect-decision .result) (c .before .before .before .before .if1 .left) (c .before .before .indirect-decision .ensures .0), c .before .before .indirect-decision .ensures .1)
+    (ruled-indirect s (a .order .now) (c .before .before .before .before .before .before .before .before .before .before .before .before .before .before .before .pre .1) (linkedIn s (length (a .work .now))) (a .stakes .now) (a .floor .0) (a .base) (a .place .authority .0) (a .place .round .0) (statusesOf (a .later .now)) (c .before .before .before .before .before .before .direct-decision .result) (c .before .before .before .before .before .before .direct-decision .ensures) (c .before .before .before .before .before .is-ruled .result) (c .before .before .before .before .before .is-ruled .ensures) (c .before .before .indirect-decision .result) (c .before .before .before .before .if1 .left) (c .before .before .indirect-decision .ensures .0), c .before .before .indirect-decision .ensures .1)
 
 pub ruled-spec : {M : Type 1} → statement M
 ruled-spec =

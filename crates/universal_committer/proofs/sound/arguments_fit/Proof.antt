@@ -1,7 +1,7 @@
 -- `arguments_fit` meets its contract: one test after another. Assumes nothing.
 use Rattle.universal_committer.proofs.Calling.{bad-author, bad-round, good-place}
-use Rattle.universal_committer.proofs.calls.arguments_fit.Statement.{statement}
-use Rattle.universal_committer.proofs.calls.arguments_fit.Tie as tie
+use Rattle.universal_committer.proofs.sound.arguments_fit.Statement.{statement}
+use Rattle.universal_committer.proofs.sound.arguments_fit.Tie as tie
 
 returns : tie.Need-returns
 returns c = bad-author (c .before .before .args .size) (c .before .before .args .last) (c .before .before .args .threshold .0) (c .if1 .taken)
