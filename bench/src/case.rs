@@ -2,7 +2,7 @@
 
 use std::{fmt::Debug, hint::black_box};
 
-use mysticeti_core::consensus::{linearizer::Linearizer, universal_committer::access, LeaderStatus};
+use mysticeti_core::consensus::{linearizer::Linearizer, LeaderStatus};
 
 use crate::{
     dag::{Dag, Shape, Tables},
@@ -175,7 +175,7 @@ impl Case<'_> {
         self.original.linearizer.handle_commit(&self.original.store, leaders);
     }
 
-    /// One call of try_commit from the state that the original is in: the statuses, and the count of decisions.
+    /// One call of try_commit from the state that the original is in: the statuses, and the decisions remembered.
     fn try_commit(&self, t: &Tables, threshold: u64) -> Costs {
         let (original, meter) = (&self.original, self.meter);
         let mut memory: Vec<u64> = original.decisions.iter().flat_map(|s| original.status_words(s)).collect();
@@ -194,15 +194,16 @@ impl Case<'_> {
                 let mut committer = original.committer();
                 let (given, cost) = meter.measure(|| committer.try_commit(original.last_decided(), threshold));
                 let words: Vec<u64> = given.iter().flat_map(|s| original.status_words(s)).collect();
-                ((0, words, access::count(&committer)), cost)
+                ((0, words, original.remembered(&committer)), cost)
             },
             || {
                 let mut ours = fresh.clone();
                 let (reply, cost) = meter.measure(|| ours.try_commit(&self.stakes, t, original.last, threshold));
                 ours.area.truncate(reply.first as usize * 4);
-                ((reply.code, ours.area, reply.second as usize), cost)
+                let remembered = ours.remembered(reply.second as usize);
+                ((reply.code, ours.area, remembered), cost)
             },
-            || ours::store_is_sound(self.size(), t),
+            || fresh.tables_are_sound(self.size(), t),
         )
     }
 
@@ -237,7 +238,7 @@ impl Case<'_> {
                 ours.order.truncate(reply.first as usize);
                 ((reply.code, ours.order, ours.ends), cost)
             },
-            || ours::store_is_sound(128, t),
+            || fresh.tables_are_sound(t),
         )
     }
 

@@ -125,6 +125,16 @@ impl Original {
         }
     }
 
+    /// What a committer of one leader remembers, round by round, as the port's words.
+    pub fn remembered(&self, committer: &UniversalCommitter) -> Vec<u64> {
+        let size = self.committee.len() as u64;
+        let status = |round: u64| access::remembered(committer, round % size, round);
+        let words: Vec<u64> =
+            (0..=self.store.highest_round()).filter_map(status).flat_map(|s| self.status_words(s)).collect();
+        assert_eq!(words.len(), access::count(committer) * 4);
+        words
+    }
+
     /// A status as the port's four words.
     pub fn status_words(&self, status: &LeaderStatus) -> [u64; 4] {
         let (kind, row) = match status {

@@ -28,6 +28,8 @@ macro_rules! lent {
 extern "C" {
     fn zhudrabel_store_is_sound(size: u64, b: *const u64, bl: usize, i: *const u64, il: usize, stored: usize) -> bool;
     fn zhudrabel_tables_are_sound(size: u64, b: *const u64, bl: usize, i: *const u64, il: usize, stored: usize, w: *const u64, wl: usize, n: *const u64, nl: usize, pending: usize) -> bool;
+    fn zhudrabel_memory_is_sound(size: u64, b: *const u64, bl: usize, stored: usize, memory: *const u64, ml: usize, decided: usize) -> bool;
+    fn zhudrabel_flags_are_sound(b: *const u64, bl: usize, stored: usize, flags: *const u8, fl: usize) -> bool;
     fn zhudrabel_linked(b: *const u64, bl: usize, i: *const u64, il: usize, stored: usize, later: usize, earlier: usize, work: *mut u8, wl: usize) -> Reply;
     fn zhudrabel_get_blocks_by_round(b: *const u64, bl: usize, i: *const u64, il: usize, stored: usize, round: u64, rows: *mut u64, rl: usize) -> Reply;
     fn zhudrabel_add_block(s: *const u64, sl: usize, b: *mut u64, bl: usize, i: *mut u64, il: usize, stored: usize, w: *mut u64, wl: usize, n: *mut u64, nl: usize, pending: usize, block: *const u64, kl: usize, list: *const u64, ll: usize) -> OfferReply;
@@ -95,6 +97,19 @@ pub struct Committer {
 }
 
 impl Committer {
+    /// The test of all tables that try_commit is lent.
+    pub fn tables_are_sound(&self, size: u64, t: &Tables) -> bool {
+        let ((b, bl), (m, ml)) = (lent!(t.blocks), lent!(self.memory));
+        store_is_sound(size, t) && unsafe { zhudrabel_memory_is_sound(size, b, bl, t.stored, m, ml, self.decided) }
+    }
+
+    /// The first rows of the memory, round by round.
+    pub fn remembered(&self, rows: usize) -> Vec<u64> {
+        let mut rows: Vec<&[u64]> = self.memory.chunks(4).take(rows).collect();
+        rows.sort_by_key(|row| row[1]);
+        rows.concat()
+    }
+
     /// A pipelined committer of one leader.
     pub fn try_commit(&mut self, stakes: &[u64], t: &Tables, last: (u64, u64), threshold: u64) -> Reply {
         let ((s, sl), (b, bl), (i, il)) = (lent!(stakes), lent!(t.blocks), lent!(t.includes));
@@ -135,6 +150,12 @@ pub struct Linearizer {
 }
 
 impl Linearizer {
+    /// The test of all tables that handle_commit is lent.
+    pub fn tables_are_sound(&self, t: &Tables) -> bool {
+        let ((b, bl), (f, fl)) = (lent!(t.blocks), lent!(self.flags));
+        store_is_sound(128, t) && unsafe { zhudrabel_flags_are_sound(b, bl, t.stored, f, fl) }
+    }
+
     pub fn handle_commit(&mut self, t: &Tables, leaders: &[u64]) -> Reply {
         let ((b, bl), (i, il), (l, ll)) = (lent!(t.blocks), lent!(t.includes), lent!(leaders));
         unsafe {

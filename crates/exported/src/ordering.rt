@@ -3,6 +3,8 @@ use crate::Reply;
 use crate::replies::commit_reply;
 use crate::replies::committed_reply;
 use crate::replies::committee_of;
+use consensus::sound::memory_is_sound;
+use linearizer::flags::flags_are_sound;
 use linearizer::handle_commit;
 use types::AuthorRound;
 use types::AuthorityIndex;
@@ -13,9 +15,33 @@ ghost use mathlib.Core.Path.{_≡_};
 ghost use lib.ListN.{length, replicate};
 ghost use Rattle.block_store.specs.Store.{storeOf};
 ghost use Rattle.committee.specs.Committees.{newCommittee};
+ghost use Rattle.consensus.specs.Sound.{soundMemory};
 ghost use Rattle.universal_committer.specs.Calls.{commitAnswer, commitArea, commitMemory};
+ghost use Rattle.linearizer.specs.Flags.{soundFlags};
 ghost use Rattle.linearizer.specs.Commits.{room, commitOf, orderOf, endsOf, flagsOf};
 ghost use Rattle.exported.specs.Replies.{replyOf, optionsOf, positionOf};
+
+// Whether a decision memory that has `decided` rows in use is sound, for the stored blocks as they are and authorities below `size`.
+#[no_mangle]
+pub extern "C" fn zhudrabel_memory_is_sound(
+    size: u64,
+    blocks: &[u64],
+    stored: usize,
+    memory: &[u64],
+    decided: usize,
+) -> bool
+    ensures { λ r. ⌜ r ≡ soundMemory size (now (blocks .entry)) stored (now (memory .entry)) decided ⌝ }
+{
+    memory_is_sound(size, blocks, stored, memory, decided)
+}
+
+// Whether the committed flags are sound, for the stored blocks as they are.
+#[no_mangle]
+pub extern "C" fn zhudrabel_flags_are_sound(blocks: &[u64], stored: usize, flags: &[u8]) -> bool
+    ensures { λ r. ⌜ r ≡ soundFlags (now (blocks .entry)) stored (now (flags .entry)) ⌝ }
+{
+    flags_are_sound(blocks, stored, flags)
+}
 
 // Decides as many leaders as possible: how many statuses are given, and how many rows of the memory are in use afterwards.
 #[no_mangle]

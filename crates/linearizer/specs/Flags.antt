@@ -1,5 +1,5 @@
 -- The committed flags: document 01, "Numbers and tables". `SoundFlags` is for a reader, `soundFlags` is the test that the code runs, and
--- proofs/Flags.antt says that they agree. Assumes nothing: these are definitions.
+-- proofs/FlagLaws.antt says that they agree. Assumes nothing: these are definitions.
 use mathlib.Core.Path.{_≡_}
 use mathlib.Core.Bool.{Bool, cond, _&&_}
 use mathlib.Core.List.{List, [], _∷_}

@@ -1,4 +1,5 @@
-// The committed flags, one byte for each row of the block table: document 01, "Numbers and tables".
+// The committed flags, one byte for each row of the block table: document 01, "Numbers and tables". The public function is a part: it takes the
+// block table as it is.
 use block_store::parts::BLOCK_WORDS;
 use types::words::byte;
 use types::words::index;
@@ -17,7 +18,7 @@ fn flag_is_sound(flags: &[u8], stored: usize, row: usize) -> bool
 }
 
 // Whether there is a flag for each row of the table, 0 or 1, and 0 where the row is not used.
-pub(crate) fn flags_are_sound(blocks: &[u64], stored: usize, flags: &[u8]) -> bool
+pub fn flags_are_sound(blocks: &[u64], stored: usize, flags: &[u8]) -> bool
     ensures { λ r. ⌜ r ≡ soundFlags (now (blocks .entry)) stored (now (flags .entry)) ⌝ }
 {
     if flags.len() != blocks.len() / BLOCK_WORDS {

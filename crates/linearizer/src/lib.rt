@@ -1,6 +1,6 @@
 // The order of committed blocks: each leader's sub-DAG, walked over a stack and sorted by round. linearizer.rs, Linearizer.
 // No public function has a `requires`.
-mod flags; // the committed flags: their test, and undoing
+pub mod flags; // the committed flags: their test, and undoing
 pub mod parts; // the leaders one after another, a part: it tests no table
 mod walk; // one leader's sub-DAG
 
