@@ -64,6 +64,22 @@ first-le x y xs ys e =
     two≠zero : _≡_ {A = ℕ} 2 0 → ⊥
     two≠zero q = omega arith
 
+module _ (blocks order : List ℕ) (n : ℕ) (ix : Indexed (referenceKey blocks) n order) where
+  rounds-rise : (j k : ℕ) → j ≤ k → k < n → getD blocks (getD order j 0 * blockWords + 1) 0 ≤ getD blocks (getD order k 0 * blockWords + 1) 0
+  unfolding keyAt
+  rounds-rise j k h l =
+      ⊎-elim
+      (λ m. first-le (getD blocks (getD order j 0 * blockWords + 1) 0) (getD blocks (getD order k 0 * blockWords + 1) 0) _ _ (entries-rise (referenceKey blocks) n (ix .distinct) order (ix .rows) j k m l))
+      (λ m. let q : j ≡ k = omega arith in let e = ap (λ (i : ℕ). getD blocks (getD order i 0 * blockWords + 1) 0) q in omega (arith, e))
+      (lt-or-le j k)
+
+  -- no row is of a higher round than the last in order
+  pub last-highest : (row : ℕ) → row < n → getD blocks (row * blockWords + 1) 0 ≤ getD blocks (getD order (n - 1) 0 * blockWords + 1) 0
+  last-highest row h =
+      let l = place-below (referenceKey blocks) n row h in
+      let e = ap (λ (r : ℕ). getD blocks (r * blockWords + 1) 0) (entry (referenceKey blocks) n (ix .distinct) order (ix .rows) row h) in
+      omega (arith, e, rounds-rise (placeOf (referenceKey blocks) n row) (n - 1) (omega arith) (omega arith))
+
 module _ (blocks order : List ℕ) (n round : ℕ) (ix : Indexed (referenceKey blocks) n order) where
   abbrev key : ℕ → List ℕ
   key = referenceKey blocks
@@ -73,14 +89,6 @@ module _ (blocks order : List ℕ) (n round : ℕ) (ix : Indexed (referenceKey b
 
   abbrev at : ℕ → ℕ
   at k = getD order k 0
-
-  rounds-rise : (j k : ℕ) → j ≤ k → k < n → roundAt (at j) ≤ roundAt (at k)
-  unfolding keyAt
-  rounds-rise j k h l =
-      ⊎-elim
-      (λ m. first-le (roundAt (at j)) (roundAt (at k)) _ _ (entries-rise key n (ix .distinct) order (ix .rows) j k m l))
-      (λ m. let q : j ≡ k = omega arith in let e : roundAt (at j) ≡ roundAt (at k) = ap (λ (i : ℕ). roundAt (at i)) q in omega arith)
-      (lt-or-le j k)
 
   apart : (j k : ℕ) → j < k → k < n → at j ≡ at k → ⊥
   apart j k h l e =
@@ -129,7 +137,7 @@ module _ (blocks order : List ℕ) (n round : ℕ) (ix : Indexed (referenceKey b
     one-from : (k m j : ℕ) → k ≤ j → j < k + m → k + m ≤ n → first ≤ k → roundAt (at j) ≡ round → at j ≡ r → times r (roundFrom blocks order round k m) ≡ 1
     one-from k zero j a b s f e q = absurd (omega arith)
     one-from k (suc m) j a b s f e q =
-        let here : roundIs blocks round (at k) ≡ true = round-is (at k) (omega (arith, higher k f (omega arith), rounds-rise k j a (omega arith), e)) in
+        let here : roundIs blocks round (at k) ≡ true = round-is (at k) (omega (arith, higher k f (omega arith), rounds-rise blocks order n ix k j a (omega arith), e)) in
         ⊎-elim
         (λ l. rw here (omega (arith, ap flag (ne-eqb (at k) r (λ z. apart k j l (omega arith) (z ∙ sym q))), one-from (suc k) m j (omega arith) (omega arith) (omega arith) (omega arith) e q)))
         (λ l. let i : k ≡ j = omega arith in

@@ -301,8 +301,8 @@ module _ (sought : Sought) (rows : List ℕ) (row : ℕ) where
   pub before-position : (o : ℕ) (p : AuthorRound) → sought ≡ Position p → o ≡ orderOf (positionKey rows row) (placeKey p) → Told (eqb o 0)
   before-position o p e eo = rw e (ap (λ (y : ℕ). eqb y 0) eo)
 
-  pub before-reference : (o : ℕ) (x : BlockReference) → sought ≡ Reference x → o ≡ orderOf (referenceKey rows row) (keyOf x) → Told (eqb o 0)
-  before-reference o x e eo = rw e (ap (λ (y : ℕ). eqb y 0) eo)
+  pub before-reference : (t : Bool) (x : BlockReference) → sought ≡ Reference x → t ≡ eqb (orderOf (referenceKey rows row) (keyOf x)) 0 → Told t
+  before-reference t x e et = rw e et
 
 -- ---- compare_position, compare_digest, compare_reference
 

@@ -7,6 +7,7 @@ ghost use mathlib.Core.Path.{_≡_};
 ghost use mathlib.Core.Bool.{true};
 ghost use mathlib.Core.List.{[], _∷_};
 ghost use Prim.Native.Nat.{_+_, _-_, _*_, _≤_, _<_};
+ghost use lib.Dec.{eqb};
 ghost use lib.ListN.{length, getD};
 ghost use Rattle.types.specs.Limits.{blockWords, referenceWords};
 ghost use Rattle.types.specs.References.{orderOf, digestWords, keyOf};
@@ -137,6 +138,21 @@ pub(crate) fn compare_reference(blocks: &[u64], row: usize, x: BlockReference) -
         return compare_words(authority, x.authority.0);
     }
     compare_digest(blocks, row, x.digest)
+}
+
+// Whether a block's row comes before a reference. Most rows differ from it in round or authority.
+pub(crate) fn precedes_reference(blocks: &[u64], row: usize, x: BlockReference) -> bool
+    ensures { λ r. ⌜ r ≡ eqb (orderOf (referenceKey (now (blocks .entry)) row) (keyOf x)) 0 ⌝ }
+{
+    let round = field(blocks, BLOCK_WORDS, row, 1);
+    if round != x.round.0 {
+        return compare_words(round, x.round.0) == LESS;
+    }
+    let authority = field(blocks, BLOCK_WORDS, row, 0);
+    if authority != x.authority.0 {
+        return compare_words(authority, x.authority.0) == LESS;
+    }
+    compare_digest(blocks, row, x.digest) == LESS
 }
 
 // The round of a block's row.

@@ -4,6 +4,7 @@ use crate::keys::EQUAL;
 use crate::keys::LESS;
 use crate::keys::compare_position;
 use crate::keys::compare_reference;
+use crate::keys::precedes_reference;
 use crate::keys::round_at;
 use types::AuthorRound;
 use types::BlockReference;
@@ -37,7 +38,7 @@ fn precedes(rows: &[u64], row: usize, sought: Sought) -> bool
     match sought {
         Sought::Round(round) => round_at(rows, row) < round.0,
         Sought::Position(place) => compare_position(rows, row, place) == LESS,
-        Sought::Reference(x) => compare_reference(rows, row, x) == LESS,
+        Sought::Reference(x) => precedes_reference(rows, row, x),
     }
 }
 

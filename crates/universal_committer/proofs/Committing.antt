@@ -2,10 +2,11 @@
 use Prim.Native.Nat.{ℕ, zero, suc, _+_, _-_, _*_, _/_, _^_, _≤_, _<_}
 use borrow.Author.Tests.{le-leb, lt-leb, ltb-true, leb-true}
 use lib.Dec.{leb, ltb}
-use lib.ListN.{length, replicate, take, drop}
+use lib.ListN.{length, getD, replicate, take, drop}
 use lib.Seq.{drop-at}
 use mathlib.Core.Bool.{Bool, true, false, cond}
 use mathlib.Core.List.{List, [], _∷_}
+use mathlib.Core.Logic.{⊎-elim}
 use mathlib.Core.Path.{_≡_, refl, sym, ap, _∙_, fun-ext}
 use native.Mathlib.Omega.{arith}
 use Rattle.block_store.specs.Sound.{soundStore}
@@ -22,9 +23,13 @@ use Rattle.committee.specs.declared.Committee.{Committee}
 use Rattle.consensus.proofs.Soundness.{sound-memory}
 use Rattle.consensus.specs.Statuses.{statusWords, statusesOf}
 use Rattle.consensus.specs.declared.status.LeaderStatus.{LeaderStatus}
+use Rattle.index.proofs.Rounds.{last-highest}
+use Rattle.index.proofs.Searching.{entry-row}
+use Rattle.index.specs.Keys.{referenceKey}
+use Rattle.index.specs.Search.{Indexed}
 use Rattle.linked.specs.Linked.{linkedIn}
 use Rattle.store_queries.specs.Rows.{everyRow, highestOf}
-use Rattle.types.proofs.Tests.{both-left, both-right, and-false}
+use Rattle.types.proofs.Tests.{both-left, both-right, and-false, lt-or-le}
 use Rattle.types.specs.Limits.{roundLimit}
 use Rattle.types.specs.Reports.{Report, Gives, Refuses, reportedVerdict, numberOf}
 use Rattle.types.specs.declared.reference.AuthorRound.{AuthorRound}
@@ -122,10 +127,36 @@ pub news-here : (sorted : Bool) (memory order : List ℕ) (decided : ℕ) (l : L
 news-here sorted memory order decided l xs g e = sorted-news sorted memory order decided g (statusesOf l) ∙ ap (freshOf (decisionsOf memory decided)) e
 
 -- ---- the highest round
-highest-low : (blocks : List ℕ) (n : ℕ) → ((row : ℕ) → row < n → fieldOf blocks row 1 < roundLimit) → highestOf blocks everyRow n < roundLimit
+highest-within : (blocks : List ℕ) (n most : ℕ) → ((row : ℕ) → row < n → fieldOf blocks row 1 ≤ most) → highestOf blocks everyRow n ≤ most
 unfolding highestOf
-highest-low blocks zero h = omega arith
-highest-low blocks (suc n) h = omega (arith, highest-low blocks n (λ row l. h row (omega arith)), h n (omega arith))
+highest-within blocks zero most h = omega arith
+highest-within blocks (suc n) most h = omega (arith, highest-within blocks n most (λ row l. h row (omega arith)), h n (omega arith))
+
+highest-over : (blocks : List ℕ) (n row : ℕ) → row < n → fieldOf blocks row 1 ≤ highestOf blocks everyRow n
+unfolding highestOf
+highest-over blocks zero row l = absurd (omega arith)
+highest-over blocks (suc n) row l =
+    ⊎-elim
+    (λ m. omega (arith, highest-over blocks n row m))
+    (λ m. let q : row ≡ n = omega arith in omega (arith, ap (λ (r : ℕ). fieldOf blocks r 1) q))
+    (lt-or-le row n)
+
+pub top-none : (blocks : List ℕ) (n : ℕ) → n ≡ 0 → 0 ≡ highestOf blocks everyRow n
+unfolding highestOf
+top-none blocks n e = rw e refl
+
+-- the last row in order has it
+module _ (blocks order : List ℕ) (n : ℕ) (ix : Indexed (referenceKey blocks) n order) where
+  over-rows : (row : ℕ) → row < n → fieldOf blocks row 1 ≤ fieldOf blocks (getD order (n - 1) 0) 1
+  unfolding fieldOf
+  over-rows = last-highest blocks order n ix
+
+  pub top-last : (row top : ℕ) → 0 < n → row ≡ getD order (n - 1) 0 → top ≡ fieldOf blocks row 1 → top ≡ highestOf blocks everyRow n
+  top-last row top l er et =
+      let e = ap (λ (r : ℕ). fieldOf blocks r 1) er in
+      let a = highest-over blocks n (getD order (n - 1) 0) (entry-row (referenceKey blocks) n (ix .distinct) order (ix .rows) (n - 1) (omega arith) .0) in
+      let b = highest-within blocks n (fieldOf blocks (getD order (n - 1) 0) 1) over-rows in
+      omega (arith, a, b, e, et)
 
 -- ---- a work area of that room links as one that is just enough
 linked-room : (s : Store) (room : ℕ) → s .count ≤ room → linkedIn s room ≡ linkedIn s (s .count)
@@ -146,7 +177,8 @@ inserted-is old last two = refl
 module _ (s : Store) (stakes : List ℕ) (floor : ℕ) (o : UniversalCommitterOptions) (size : ℕ) (memory : List ℕ) (decided : ℕ) (last : AuthorRound) (threshold : ℕ)
     (q : Tested o size s memory decided last threshold) where
   pub top-low : highestIn s < roundLimit
-  top-low = highest-low (s .blocks) (s .count) (stores.sound size s (q .store) .rounds)
+  top-low =
+      omega (arith, highest-within (s .blocks) (s .count) (roundLimit - 1) (λ row l. omega (arith, stores.sound size s (q .store) .rounds row l)))
 
   abbrev old : List LeaderStatus
   old = decisionsOf memory decided

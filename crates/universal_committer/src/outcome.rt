@@ -5,12 +5,12 @@ use crate::counts::leaders_examined;
 use crate::counts::rounds_examined;
 use crate::walk::Walked;
 use crate::walk::examine_rounds;
+use block_store::parts::round_at;
 use commit_walk::parts::Recorded;
 use commit_walk::parts::cut;
 use commit_walk::parts::record;
 use consensus::parts::STATUS_WORDS;
-use store_queries::filter::Filter;
-use store_queries::parts::highest;
+use index::lookup::row_at;
 use types::AuthorRound;
 use types::Refusal;
 use types::RoundNumber;
@@ -19,10 +19,26 @@ use types::words::clear;
 ghost use mathlib.Core.Path.{_≡_};
 ghost use Prim.Native.Nat.{_*_, _/_, _≤_};
 ghost use lib.ListN.{length, replicate, take, drop};
+ghost use Rattle.index.specs.Keys.{referenceKey};
+ghost use Rattle.index.specs.Search.{Indexed};
 ghost use Rattle.block_store.specs.Store.{storeOf};
+ghost use Rattle.store_queries.specs.Rows.{everyRow, highestOf};
 ghost use Rattle.consensus.specs.Statuses.{statusWords, statusesOf};
 ghost use Rattle.commit_walk.specs.Rows.{SortedIf, decisionsOf};
 ghost use Rattle.universal_committer.specs.Calls.{reportedCommitted, InOrder, Tested, settledOf, outcomeReport, areaBy, memoryBy, outcomeIn, commitReport};
+
+// The highest round of the stored blocks: that of the last row in order, 0 where none is stored.
+fn top_round(blocks: &[u64], stored: usize, order: &[u16]) -> RoundNumber
+    requires { ⌜ Indexed (referenceKey (now blocks)) stored (now order) ⌝ }
+    ensures { λ r. ⌜ r .0 ≡ highestOf (now (blocks .entry)) everyRow stored ⌝ }
+{
+    if stored == 0 {
+        return RoundNumber(0);
+    }
+    let last = stored - 1;
+    let row = row_at(order, last);
+    round_at(blocks, row)
+}
 
 // Records the new decisions among the statuses that stand in the area from `first` on, and cuts; where the memory has no room, neither.
 fn settle(
@@ -80,7 +96,7 @@ pub(crate) fn commit(
     ensures remembers { λ _. ⌜ now (memory .exit) ≡ memoryBy (commitReport (storeOf (now (blocks .entry)) (now (includes .entry)) stored) (now (stakes .entry)) (floor .0) options size (now (memory .entry)) decided last (threshold .0) (length (now (area .entry))) (length (now (work .entry)))) (outcomeIn (storeOf (now (blocks .entry)) (now (includes .entry)) stored) (now (stakes .entry)) (floor .0) options size (decisionsOf (now (memory .entry)) decided) last (threshold .0)) (now (memory .entry)) decided ⌝ }
     ensures zeroed { λ _. ⌜ now (work .exit) ≡ replicate (length (now (work .entry))) 0 ⌝ }
 {
-    let top = highest(blocks, stored, Filter::Any);
+    let top = top_round(blocks, stored, order);
     let low = last.round;
     let rounds = rounds_examined(options, threshold, top, low);
     let rows = (area.len() / STATUS_WORDS) as u64;

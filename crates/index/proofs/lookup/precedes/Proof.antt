@@ -19,8 +19,8 @@ compare-position-requires c κs = search needs
 enum-known-sought-3 : tie.Need-enum-known-sought-3
 enum-known-sought-3 c = search needs
 
-compare-reference-requires : tie.Need-compare-reference-requires
-compare-reference-requires c κs = search needs
+precedes-reference-requires : tie.Need-precedes-reference-requires
+precedes-reference-requires c κs = search needs
 
 returns : tie.Need-returns
 returns c = let a = c .before .before .before .before .before .before .args in before-round (a .sought) (a .rows .now) (a .row) _ _ (c .before .before .before .sought .given .1) (c .before .round-at .ensures)
@@ -29,7 +29,7 @@ returns-2 : tie.Need-returns-2
 returns-2 c = let a = c .before .before .before .before .before .args in before-position (a .sought) (a .rows .now) (a .row) _ _ (c .before .before .sought2 .given .1) (c .compare-position .ensures)
 
 returns-3 : tie.Need-returns-3
-returns-3 c = let a = c .before .before .before .before .before .args in before-reference (a .sought) (a .rows .now) (a .row) _ _ (c .before .before .sought3 .given .1) (c .compare-reference .ensures)
+returns-3 c = let a = c .before .before .before .before .before .args in before-reference (a .sought) (a .rows .now) (a .row) _ _ (c .before .before .sought3 .given .1) (c .precedes-reference .ensures)
 
 pub precedes-spec : {M : Type 1} → statement M
 precedes-spec =
@@ -40,7 +40,7 @@ precedes-spec =
     enum-known-sought-2
     compare-position-requires
     enum-known-sought-3
-    compare-reference-requires
+    precedes-reference-requires
     returns
     returns-2
     returns-3)

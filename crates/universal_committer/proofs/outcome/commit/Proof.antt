@@ -13,29 +13,29 @@ use Rattle.universal_committer.proofs.Ordered.{ordered-part}
 use Rattle.universal_committer.proofs.outcome.commit.Statement.{statement}
 use Rattle.universal_committer.proofs.outcome.commit.Tie as tie
 
-highest-requires : tie.Need-highest-requires
-highest-requires c κs = search needs
+top-round-requires : tie.Need-top-round-requires
+top-round-requires c κs = c .before .before .before .before .before .before .before .before .pre .1 .1 .stored-rows
 
 rounds-examined-requires : tie.Need-rounds-examined-requires
 rounds-examined-requires c κs =
     let a = c .before .before .before .before .before .before .before .before .before .before .args in
-    (sound-most (a .options) (a .size) (c .before .before .before .before .before .before .before .before .before .before .pre .0 .options) (c .before .before .before .before .before .before .before .before .before .before .pre .0 .few), (omega (arith, c .before .before .before .before .before .before .before .before .before .before .pre .0 .high), omega (arith, top-low (storeOf (a .blocks .now) (a .includes .now) (a .stored)) (a .stakes .now) (a .floor .0) (a .options) (a .size) (a .memory .now) (a .decided) (a .last) (a .threshold .0) (c .before .before .before .before .before .before .before .before .before .before .pre .0), c .before .highest .ensures)))
+    (sound-most (a .options) (a .size) (c .before .before .before .before .before .before .before .before .before .before .pre .0 .options) (c .before .before .before .before .before .before .before .before .before .before .pre .0 .few), (omega (arith, c .before .before .before .before .before .before .before .before .before .before .pre .0 .high), omega (arith, top-low (storeOf (a .blocks .now) (a .includes .now) (a .stored)) (a .stakes .now) (a .floor .0) (a .options) (a .size) (a .memory .now) (a .decided) (a .last) (a .threshold .0) (c .before .before .before .before .before .before .before .before .before .before .pre .0), c .before .top-round .ensures)))
 
 leaders-examined-requires : tie.Need-leaders-examined-requires
 leaders-examined-requires c κs =
     let a = c .before .before .before .before .before .before .before .before .before .before .before .args in
-    (sound-most (a .options) (a .size) (c .before .before .before .before .before .before .before .before .before .before .before .pre .0 .options) (c .before .before .before .before .before .before .before .before .before .before .before .pre .0 .few), rounds-low (storeOf (a .blocks .now) (a .includes .now) (a .stored)) (a .stakes .now) (a .floor .0) (a .options) (a .size) (a .memory .now) (a .decided) (a .last) (a .threshold .0) (c .before .before .before .before .before .before .before .before .before .before .before .pre .0) (c .rounds-examined .result) (rounds-here (storeOf (a .blocks .now) (a .includes .now) (a .stored)) (a .options) (a .threshold .0) (a .last .round .0) (c .before .before .highest .result .0) (c .rounds-examined .result) (c .before .before .highest .ensures) (c .rounds-examined .ensures)))
+    (sound-most (a .options) (a .size) (c .before .before .before .before .before .before .before .before .before .before .before .pre .0 .options) (c .before .before .before .before .before .before .before .before .before .before .before .pre .0 .few), rounds-low (storeOf (a .blocks .now) (a .includes .now) (a .stored)) (a .stakes .now) (a .floor .0) (a .options) (a .size) (a .memory .now) (a .decided) (a .last) (a .threshold .0) (c .before .before .before .before .before .before .before .before .before .before .before .pre .0) (c .rounds-examined .result) (rounds-here (storeOf (a .blocks .now) (a .includes .now) (a .stored)) (a .options) (a .threshold .0) (a .last .round .0) (c .before .before .top-round .result .0) (c .rounds-examined .result) (c .before .before .top-round .ensures) (c .rounds-examined .ensures)))
 
 returns : tie.Need-returns
 returns c =
     let a = c .before .before .before .before .before .before .before .before .before .before .before .before .before .args in
-    let e = rows-end (storeOf (a .blocks .now) (a .includes .now) (a .stored)) (a .stakes .now) (a .floor .0) (a .options) (a .size) (a .memory .now) (a .decided) (a .last) (a .threshold .0) (c .before .before .before .before .before .before .before .before .before .before .before .before .before .pre .0) (c .before .before .rounds-examined .result) (rounds-here (storeOf (a .blocks .now) (a .includes .now) (a .stored)) (a .options) (a .threshold .0) (a .last .round .0) (c .before .before .before .before .highest .result .0) (c .before .before .rounds-examined .result) (c .before .before .before .before .highest .ensures) (c .before .before .rounds-examined .ensures)) (length (a .area .now)) (length (a .work .now)) (omega (arith, c .if1 .taken, c .before .leaders-examined .ensures)) (a .area .now) (c .before .before .before .before .before .before .before .before .before .before .before .before .before .pre .1 .0 .0) in
+    let e = rows-end (storeOf (a .blocks .now) (a .includes .now) (a .stored)) (a .stakes .now) (a .floor .0) (a .options) (a .size) (a .memory .now) (a .decided) (a .last) (a .threshold .0) (c .before .before .before .before .before .before .before .before .before .before .before .before .before .pre .0) (c .before .before .rounds-examined .result) (rounds-here (storeOf (a .blocks .now) (a .includes .now) (a .stored)) (a .options) (a .threshold .0) (a .last .round .0) (c .before .before .before .before .top-round .result .0) (c .before .before .rounds-examined .result) (c .before .before .before .before .top-round .ensures) (c .before .before .rounds-examined .ensures)) (length (a .area .now)) (length (a .work .now)) (omega (arith, c .if1 .taken, c .before .leaders-examined .ensures)) (a .area .now) (c .before .before .before .before .before .before .before .before .before .before .before .before .before .pre .1 .0 .0) in
     (e .0, (e .1 .0, (e .1 .1, c .before .before .before .before .before .before .before .before .before .before .before .before .before .pre .1 .0 .1)))
 
 returns-2 : tie.Need-returns-2
 returns-2 c =
     let a = c .before .before .before .before .before .before .before .before .before .before .before .before .before .before .args in
-    let e = bytes-end (storeOf (a .blocks .now) (a .includes .now) (a .stored)) (a .stakes .now) (a .floor .0) (a .options) (a .size) (a .memory .now) (a .decided) (a .last) (a .threshold .0) (c .before .before .before .before .before .before .before .before .before .before .before .before .before .before .pre .0) (c .before .before .before .rounds-examined .result) (rounds-here (storeOf (a .blocks .now) (a .includes .now) (a .stored)) (a .options) (a .threshold .0) (a .last .round .0) (c .before .before .before .before .before .highest .result .0) (c .before .before .before .rounds-examined .result) (c .before .before .before .before .before .highest .ensures) (c .before .before .before .rounds-examined .ensures)) (length (a .area .now)) (length (a .work .now)) (c .if2 .taken) (a .area .now) (c .before .before .before .before .before .before .before .before .before .before .before .before .before .before .pre .1 .0 .0) in
+    let e = bytes-end (storeOf (a .blocks .now) (a .includes .now) (a .stored)) (a .stakes .now) (a .floor .0) (a .options) (a .size) (a .memory .now) (a .decided) (a .last) (a .threshold .0) (c .before .before .before .before .before .before .before .before .before .before .before .before .before .before .pre .0) (c .before .before .before .rounds-examined .result) (rounds-here (storeOf (a .blocks .now) (a .includes .now) (a .stored)) (a .options) (a .threshold .0) (a .last .round .0) (c .before .before .before .before .before .top-round .result .0) (c .before .before .before .rounds-examined .result) (c .before .before .before .before .before .top-round .ensures) (c .before .before .before .rounds-examined .ensures)) (length (a .area .now)) (length (a .work .now)) (c .if2 .taken) (a .area .now) (c .before .before .before .before .before .before .before .before .before .before .before .before .before .before .pre .1 .0 .0) in
     (e .0, (e .1 .0, (e .1 .1, c .before .before .before .before .before .before .before .before .before .before .before .before .before .before .pre .1 .0 .1)))
 
 mul-used : tie.Need-mul-used
@@ -53,7 +53,7 @@ part-examine-rounds-end c = search needs
 examine-rounds-requires : tie.Need-examine-rounds-requires
 examine-rounds-requires c κs =
     let a = c .before .before .before .before .before .before .before .before .before .before .before .before .before .before .before .before .before .before .args in
-    (sound-most (a .options) (a .size) (c .before .before .before .before .before .before .before .before .before .before .before .before .before .before .before .before .before .before .pre .0 .options) (c .before .before .before .before .before .before .before .before .before .before .before .before .before .before .before .before .before .before .pre .0 .few), ((rounds-low (storeOf (a .blocks .now) (a .includes .now) (a .stored)) (a .stakes .now) (a .floor .0) (a .options) (a .size) (a .memory .now) (a .decided) (a .last) (a .threshold .0) (c .before .before .before .before .before .before .before .before .before .before .before .before .before .before .before .before .before .before .pre .0) (c .before .before .before .before .before .before .before .rounds-examined .result) (rounds-here (storeOf (a .blocks .now) (a .includes .now) (a .stored)) (a .options) (a .threshold .0) (a .last .round .0) (c .before .before .before .before .before .before .before .before .before .highest .result .0) (c .before .before .before .before .before .before .before .rounds-examined .result) (c .before .before .before .before .before .before .before .before .before .highest .ensures) (c .before .before .before .before .before .before .before .rounds-examined .ensures)), walk-room (storeOf (a .blocks .now) (a .includes .now) (a .stored)) (a .stakes .now) (a .floor .0) (a .options) (a .size) (a .memory .now) (a .decided) (a .last) (a .threshold .0) (c .before .before .before .before .before .before .before .before .before .before .before .before .before .before .before .before .before .before .pre .0) (c .before .before .before .before .before .before .before .rounds-examined .result) (rounds-here (storeOf (a .blocks .now) (a .includes .now) (a .stored)) (a .options) (a .threshold .0) (a .last .round .0) (c .before .before .before .before .before .before .before .before .before .highest .result .0) (c .before .before .before .before .before .before .before .rounds-examined .result) (c .before .before .before .before .before .before .before .before .before .highest .ensures) (c .before .before .before .before .before .before .before .rounds-examined .ensures)) (length (a .area .now)) (length (a .work .now)) (omega (arith, c .before .before .before .before .before .if1 .left, c .before .before .before .before .before .before .leaders-examined .ensures)) (c .before .before .before .before .if2 .left)), (c .before .before .before .before .before .before .before .before .before .before .before .before .before .before .before .before .before .before .pre .1 .0 .1, (c .before .before .before .before .before .before .before .before .before .before .before .before .before .before .before .before .before .before .pre .1 .1 .stored-rows, ordered-part (storeOf (a .blocks .now) (a .includes .now) (a .stored)) (a .order .now) (a .memory .now) (a .decided) (a .sorted) (a .places .now) _ (c .before .before .before .before .before .before .before .before .before .before .before .before .before .before .before .before .before .before .pre .1 .1) (c .before .before .before .before .before .before .before .before .before .before .before .before .before .before .before .before .before .before .pre .0 .used) (part-old (a .decided * statusWords) (a .memory .now))))))
+    (sound-most (a .options) (a .size) (c .before .before .before .before .before .before .before .before .before .before .before .before .before .before .before .before .before .before .pre .0 .options) (c .before .before .before .before .before .before .before .before .before .before .before .before .before .before .before .before .before .before .pre .0 .few), ((rounds-low (storeOf (a .blocks .now) (a .includes .now) (a .stored)) (a .stakes .now) (a .floor .0) (a .options) (a .size) (a .memory .now) (a .decided) (a .last) (a .threshold .0) (c .before .before .before .before .before .before .before .before .before .before .before .before .before .before .before .before .before .before .pre .0) (c .before .before .before .before .before .before .before .rounds-examined .result) (rounds-here (storeOf (a .blocks .now) (a .includes .now) (a .stored)) (a .options) (a .threshold .0) (a .last .round .0) (c .before .before .before .before .before .before .before .before .before .top-round .result .0) (c .before .before .before .before .before .before .before .rounds-examined .result) (c .before .before .before .before .before .before .before .before .before .top-round .ensures) (c .before .before .before .before .before .before .before .rounds-examined .ensures)), walk-room (storeOf (a .blocks .now) (a .includes .now) (a .stored)) (a .stakes .now) (a .floor .0) (a .options) (a .size) (a .memory .now) (a .decided) (a .last) (a .threshold .0) (c .before .before .before .before .before .before .before .before .before .before .before .before .before .before .before .before .before .before .pre .0) (c .before .before .before .before .before .before .before .rounds-examined .result) (rounds-here (storeOf (a .blocks .now) (a .includes .now) (a .stored)) (a .options) (a .threshold .0) (a .last .round .0) (c .before .before .before .before .before .before .before .before .before .top-round .result .0) (c .before .before .before .before .before .before .before .rounds-examined .result) (c .before .before .before .before .before .before .before .before .before .top-round .ensures) (c .before .before .before .before .before .before .before .rounds-examined .ensures)) (length (a .area .now)) (length (a .work .now)) (omega (arith, c .before .before .before .before .before .if1 .left, c .before .before .before .before .before .before .leaders-examined .ensures)) (c .before .before .before .before .if2 .left)), (c .before .before .before .before .before .before .before .before .before .before .before .before .before .before .before .before .before .before .pre .1 .0 .1, (c .before .before .before .before .before .before .before .before .before .before .before .before .before .before .before .before .before .before .pre .1 .1 .stored-rows, ordered-part (storeOf (a .blocks .now) (a .includes .now) (a .stored)) (a .order .now) (a .memory .now) (a .decided) (a .sorted) (a .places .now) _ (c .before .before .before .before .before .before .before .before .before .before .before .before .before .before .before .before .before .before .pre .1 .1) (c .before .before .before .before .before .before .before .before .before .before .before .before .before .before .before .before .before .before .pre .0 .used) (part-old (a .decided * statusWords) (a .memory .now))))))
 
 enum-known-found : tie.Need-enum-known-found
 enum-known-found c = search needs
@@ -82,7 +82,7 @@ same-length-3 c = search needs
 returns-3 : tie.Need-returns-3
 returns-3 c =
     let a = c .before .before .before .before .before .before .before .before .before .before .before .before .before .before .before .before .before .before .before .before .before .before .before .before .before .before .before .before .before .before .before .before .before .args in
-    let e = from-end (storeOf (a .blocks .now) (a .includes .now) (a .stored)) (a .stakes .now) (a .floor .0) (a .options) (a .size) (a .memory .now) (a .decided) (a .last) (a .threshold .0) (c .before .before .before .before .before .before .before .before .before .before .before .before .before .before .before .before .before .before .before .before .before .before .before .before .before .before .before .before .before .before .before .before .before .pre .0) (c .before .before .before .before .before .before .before .before .before .before .before .before .before .before .before .before .before .before .before .before .before .before .rounds-examined .result) (rounds-here (storeOf (a .blocks .now) (a .includes .now) (a .stored)) (a .options) (a .threshold .0) (a .last .round .0) (c .before .before .before .before .before .before .before .before .before .before .before .before .before .before .before .before .before .before .before .before .before .before .before .before .highest .result .0) (c .before .before .before .before .before .before .before .before .before .before .before .before .before .before .before .before .before .before .before .before .before .before .rounds-examined .result) (c .before .before .before .before .before .before .before .before .before .before .before .before .before .before .before .before .before .before .before .before .before .before .before .before .highest .ensures) (c .before .before .before .before .before .before .before .before .before .before .before .before .before .before .before .before .before .before .before .before .before .before .rounds-examined .ensures)) (length (a .area .now)) (length (a .work .now)) (omega (arith, c .before .before .before .before .before .before .before .before .before .before .before .before .before .before .before .before .before .before .before .before .if1 .left, c .before .before .before .before .before .before .before .before .before .before .before .before .before .before .before .before .before .before .before .before .before .leaders-examined .ensures)) (c .before .before .before .before .before .before .before .before .before .before .before .before .before .before .before .before .before .before .before .if2 .left) (c .before .before .before .before .before .before .before .before .before .before .before .before .before .before .examine-rounds .result) (c .before .before .before .before .before .before .before .before .before .before .before .before .before .before .examine-rounds .last .1 .1 .1 .1 .1 .1 .1 .1 .1 .1 .1 .1 .1 .0) (take (a .decided * statusWords - 0) (drop 0 (a .memory .now))) (part-old (a .decided * statusWords) (a .memory .now)) (c .before .before .before .before .before .before .before .before .before .before .before .before .before .before .examine-rounds .ensures .0) _ (c .before .before .before .before .before .before .before .before .found .given .1) (c .before .before .before .before .settle .result) (c .before .before .before .before .settle .last .1 .1 .1 .1 .0) (c .before .before .before .before .settle .last .0) (c .before .before .before .before .settle .ensures .0) (length (c .before .before .before .before .before .before .before .before .before .before .before .before .before .before .examine-rounds .last .1 .1 .1 .1 .1 .1 .1 .1 .1 .1 .1 .1 .1 .0)) (c .before .before .before .before .before .before .before .before .before .before .before .before .before .before .examine-rounds .kept .1 .1 .1 .1 .1 .1 .1 .1 .1 .1 .1 .1 .1 .0) (c .before .before .before .before .settle .ensures .1 .0) (c .before .before .before .before .settle .ensures .1 .1) in
+    let e = from-end (storeOf (a .blocks .now) (a .includes .now) (a .stored)) (a .stakes .now) (a .floor .0) (a .options) (a .size) (a .memory .now) (a .decided) (a .last) (a .threshold .0) (c .before .before .before .before .before .before .before .before .before .before .before .before .before .before .before .before .before .before .before .before .before .before .before .before .before .before .before .before .before .before .before .before .before .pre .0) (c .before .before .before .before .before .before .before .before .before .before .before .before .before .before .before .before .before .before .before .before .before .before .rounds-examined .result) (rounds-here (storeOf (a .blocks .now) (a .includes .now) (a .stored)) (a .options) (a .threshold .0) (a .last .round .0) (c .before .before .before .before .before .before .before .before .before .before .before .before .before .before .before .before .before .before .before .before .before .before .before .before .top-round .result .0) (c .before .before .before .before .before .before .before .before .before .before .before .before .before .before .before .before .before .before .before .before .before .before .rounds-examined .result) (c .before .before .before .before .before .before .before .before .before .before .before .before .before .before .before .before .before .before .before .before .before .before .before .before .top-round .ensures) (c .before .before .before .before .before .before .before .before .before .before .before .before .before .before .before .before .before .before .before .before .before .before .rounds-examined .ensures)) (length (a .area .now)) (length (a .work .now)) (omega (arith, c .before .before .before .before .before .before .before .before .before .before .before .before .before .before .before .before .before .before .before .before .if1 .left, c .before .before .before .before .before .before .before .before .before .before .before .before .before .before .before .before .before .before .before .before .before .leaders-examined .ensures)) (c .before .before .before .before .before .before .before .before .before .before .before .before .before .before .before .before .before .before .before .if2 .left) (c .before .before .before .before .before .before .before .before .before .before .before .before .before .before .examine-rounds .result) (c .before .before .before .before .before .before .before .before .before .before .before .before .before .before .examine-rounds .last .1 .1 .1 .1 .1 .1 .1 .1 .1 .1 .1 .1 .1 .0) (take (a .decided * statusWords - 0) (drop 0 (a .memory .now))) (part-old (a .decided * statusWords) (a .memory .now)) (c .before .before .before .before .before .before .before .before .before .before .before .before .before .before .examine-rounds .ensures .0) _ (c .before .before .before .before .before .before .before .before .found .given .1) (c .before .before .before .before .settle .result) (c .before .before .before .before .settle .last .1 .1 .1 .1 .0) (c .before .before .before .before .settle .last .0) (c .before .before .before .before .settle .ensures .0) (length (c .before .before .before .before .before .before .before .before .before .before .before .before .before .before .examine-rounds .last .1 .1 .1 .1 .1 .1 .1 .1 .1 .1 .1 .1 .1 .0)) (c .before .before .before .before .before .before .before .before .before .before .before .before .before .before .examine-rounds .kept .1 .1 .1 .1 .1 .1 .1 .1 .1 .1 .1 .1 .1 .0) (c .before .before .before .before .settle .ensures .1 .0) (c .before .before .before .before .settle .ensures .1 .1) in
     (e .0, (e .1 .0, (e .1 .1, c .before .before .before .before .before .before .before .before .before .before .before .before .before .before .examine-rounds .ensures .1 .1)))
 
 same-length-4 : tie.Need-same-length-4
@@ -97,14 +97,14 @@ same-length-6 c = search needs
 returns-4 : tie.Need-returns-4
 returns-4 c =
     let a = c .before .before .before .before .before .before .before .before .before .before .before .before .before .before .before .before .before .before .before .before .before .before .before .before .before .before .before .before .before .args in
-    let e = two-end (storeOf (a .blocks .now) (a .includes .now) (a .stored)) (a .stakes .now) (a .floor .0) (a .options) (a .size) (a .memory .now) (a .decided) (a .last) (a .threshold .0) (c .before .before .before .before .before .before .before .before .before .before .before .before .before .before .before .before .before .before .before .before .before .before .before .before .before .before .before .before .before .pre .0) (c .before .before .before .before .before .before .before .before .before .before .before .before .before .before .before .before .before .before .rounds-examined .result) (rounds-here (storeOf (a .blocks .now) (a .includes .now) (a .stored)) (a .options) (a .threshold .0) (a .last .round .0) (c .before .before .before .before .before .before .before .before .before .before .before .before .before .before .before .before .before .before .before .before .highest .result .0) (c .before .before .before .before .before .before .before .before .before .before .before .before .before .before .before .before .before .before .rounds-examined .result) (c .before .before .before .before .before .before .before .before .before .before .before .before .before .before .before .before .before .before .before .before .highest .ensures) (c .before .before .before .before .before .before .before .before .before .before .before .before .before .before .before .before .before .before .rounds-examined .ensures)) (length (a .area .now)) (length (a .work .now)) (omega (arith, c .before .before .before .before .before .before .before .before .before .before .before .before .before .before .before .before .if1 .left, c .before .before .before .before .before .before .before .before .before .before .before .before .before .before .before .before .before .leaders-examined .ensures)) (c .before .before .before .before .before .before .before .before .before .before .before .before .before .before .before .if2 .left) (c .before .before .before .before .before .before .before .before .before .before .examine-rounds .result) (c .before .before .before .before .before .before .before .before .before .before .examine-rounds .last .1 .1 .1 .1 .1 .1 .1 .1 .1 .1 .1 .1 .1 .0) (take (a .decided * statusWords - 0) (drop 0 (a .memory .now))) (part-old (a .decided * statusWords) (a .memory .now)) (c .before .before .before .before .before .before .before .before .before .before .examine-rounds .ensures .0) (c .before .before .before .before .enum-told .given .1) (c .before .before .clear .last .0) (c .before .before .clear .ensures ∙ ap (λ (n : ℕ). replicate n 0) (c .before .before .before .before .before .before .before .before .before .before .examine-rounds .kept .1 .1 .1 .1 .1 .1 .1 .1 .1 .1 .1 .1 .1 .0)) in
+    let e = two-end (storeOf (a .blocks .now) (a .includes .now) (a .stored)) (a .stakes .now) (a .floor .0) (a .options) (a .size) (a .memory .now) (a .decided) (a .last) (a .threshold .0) (c .before .before .before .before .before .before .before .before .before .before .before .before .before .before .before .before .before .before .before .before .before .before .before .before .before .before .before .before .before .pre .0) (c .before .before .before .before .before .before .before .before .before .before .before .before .before .before .before .before .before .before .rounds-examined .result) (rounds-here (storeOf (a .blocks .now) (a .includes .now) (a .stored)) (a .options) (a .threshold .0) (a .last .round .0) (c .before .before .before .before .before .before .before .before .before .before .before .before .before .before .before .before .before .before .before .before .top-round .result .0) (c .before .before .before .before .before .before .before .before .before .before .before .before .before .before .before .before .before .before .rounds-examined .result) (c .before .before .before .before .before .before .before .before .before .before .before .before .before .before .before .before .before .before .before .before .top-round .ensures) (c .before .before .before .before .before .before .before .before .before .before .before .before .before .before .before .before .before .before .rounds-examined .ensures)) (length (a .area .now)) (length (a .work .now)) (omega (arith, c .before .before .before .before .before .before .before .before .before .before .before .before .before .before .before .before .if1 .left, c .before .before .before .before .before .before .before .before .before .before .before .before .before .before .before .before .before .leaders-examined .ensures)) (c .before .before .before .before .before .before .before .before .before .before .before .before .before .before .before .if2 .left) (c .before .before .before .before .before .before .before .before .before .before .examine-rounds .result) (c .before .before .before .before .before .before .before .before .before .before .examine-rounds .last .1 .1 .1 .1 .1 .1 .1 .1 .1 .1 .1 .1 .1 .0) (take (a .decided * statusWords - 0) (drop 0 (a .memory .now))) (part-old (a .decided * statusWords) (a .memory .now)) (c .before .before .before .before .before .before .before .before .before .before .examine-rounds .ensures .0) (c .before .before .before .before .enum-told .given .1) (c .before .before .clear .last .0) (c .before .before .clear .ensures ∙ ap (λ (n : ℕ). replicate n 0) (c .before .before .before .before .before .before .before .before .before .before .examine-rounds .kept .1 .1 .1 .1 .1 .1 .1 .1 .1 .1 .1 .1 .1 .0)) in
     (e .0, (e .1 .0, (e .1 .1, c .before .before .before .before .before .before .before .before .before .before .examine-rounds .ensures .1 .1)))
 
 pub commit-spec : {M : Type 1} → statement M
 commit-spec =
     tie.close
     (tie.spec
-    highest-requires
+    top-round-requires
     rounds-examined-requires
     leaders-examined-requires
     returns
