@@ -100,6 +100,34 @@ impl Dag {
         tables.stored = stored;
         tables
     }
+
+    /// The tables before the first row is offered, and all the others were: the rest of its round is stored, and
+    /// everything above waits, in this order or in reverse.
+    pub fn tables_without_first(&self, reverse: bool) -> Tables {
+        let includes = self.rows.iter().map(|row| row.includes.len()).sum();
+        let mut tables = Tables::empty(self.rows.len(), includes);
+        let lowest = self.rounds[0].len();
+        for (i, row) in self.rows[1..lowest].iter().enumerate() {
+            tables.blocks[i * 8..i * 8 + 6].copy_from_slice(&row.reference());
+        }
+        tables.stored = lowest - 1;
+        let mut waiting: Vec<&Row> = self.rows[lowest..].iter().collect();
+        if reverse {
+            waiting.reverse();
+        }
+        let mut first = 0;
+        for (i, row) in waiting.iter().enumerate() {
+            tables.waiting[i * 8..i * 8 + 6].copy_from_slice(&row.reference());
+            tables.waiting[i * 8 + 6] = first as u64;
+            tables.waiting[i * 8 + 7] = row.includes.len() as u64;
+            for include in &row.includes {
+                tables.named[first * 6..first * 6 + 6].copy_from_slice(&self.rows[*include].reference());
+                first += 1;
+            }
+        }
+        tables.pending = waiting.len();
+        tables
+    }
 }
 
 /// The lent tables of both sides and their counts.

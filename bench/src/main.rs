@@ -2,6 +2,7 @@
 //!
 //!     bench times     the table of times, and of instructions where the machine counts them
 //!     bench counts    the table of instructions under callgrind
+//!     bench release   how long an offer takes that lets in all that waits
 //!     bench stack     the stack that each call needs at the largest tables
 
 mod case;
@@ -9,6 +10,7 @@ mod dag;
 mod meter;
 mod original;
 mod ours;
+mod release;
 mod report;
 mod stack;
 
@@ -25,8 +27,9 @@ fn main() {
     match std::env::args().nth(1).as_deref() {
         Some("times") => tables(&Meter::of_the_machine(), &BLOCKS),
         Some("counts") => tables(&Meter::of_callgrind(), &COUNTED_BLOCKS),
+        Some("release") => release::print(),
         Some("stack") => stack::print(),
-        _ => println!("bench times | counts | stack"),
+        _ => println!("bench times | counts | release | stack"),
     }
 }
 

@@ -59,6 +59,9 @@ pub fn print() {
     println!("{MARGIN} is what the measurement starts from.\n");
     let show = |call: &str, bytes: usize| println!("- {call}: {bytes}");
     show("add_block", stack_of(|| assert_eq!(ours::add_block(&stakes, &mut t, &reference, &list).code, 0)));
+    let mut all = dag.tables_without_first(true);
+    let first = dag.rows[0].reference();
+    show("add_block, letting in all", stack_of(|| assert_eq!(ours::add_block(&stakes, &mut all, &first, &[]).code, 0)));
     show("table test", stack_of(|| assert!(ours::store_is_sound(size, &t))));
     show("table test, both sides", stack_of(|| assert!(ours::tables_are_sound(size, &t))));
 

@@ -7,18 +7,19 @@ use mathlib.Core.Bool.{true, false}
 use mathlib.Core.List.{List, [], _∷_, _++_}
 use mathlib.Core.Path.{_≡_, refl, sym, ap, _∙_, subst}
 use native.Mathlib.Omega.{arith}
-use Rattle.block_manager.specs.Call.{answerOf, addBlock, tablesAfter, answerBy, tablesBy, CanOffer, CanEnter}
+use Rattle.block_manager.specs.Call.{answerOf, addBlock, tablesAfter, answerBy, tablesBy, CanOffer}
+use Rattle.block_manager.specs.Release.{CanRelease}
+use Rattle.block_manager.specs.Room.{HasRoom}
 use Rattle.block_tables.proofs.Climbing.{resize, unresize}
 use Rattle.block_tables.proofs.Growing.{front-kept}
-use Rattle.block_tables.proofs.Holding.{length-refsIn, row-found, refs-of-rows}
+use Rattle.block_tables.proofs.Holding.{length-refsIn, row-found}
 use Rattle.block_tables.proofs.Lookups.{whole-front}
 use Rattle.block_tables.proofs.Moving.{state-is, sized, unsized}
-use Rattle.block_tables.proofs.Reading.{held-all}
 use Rattle.block_tables.proofs.Soundness.{holds-encode}
 use Rattle.block_tables.proofs.State.{tested-holds, tested-sound}
 use Rattle.block_tables.proofs.Testing.{and-yes}
-use Rattle.block_tables.specs.Holding.{StoredAs, PendingAs, Holds, CanStore, CanWait, CanClimb, blockOf, stateIn}
-use Rattle.block_tables.specs.Reading.{allAmong, FrontIndexed}
+use Rattle.block_tables.specs.Holding.{StoredAs, PendingAs, Holds, CanWait, CanClimb, blockOf, stateIn}
+use Rattle.block_tables.specs.Reading.{FrontIndexed}
 use Rattle.block_tables.specs.Sound.{countsIn, limitsOf, soundTables, limitsIn}
 use Rattle.block_tables.specs.Words.{refRows, Tables, encode, tablesOf}
 use Rattle.block_tables.specs.declared.Counts.{Counts}
@@ -27,10 +28,11 @@ use Rattle.committee.specs.declared.Committee.{Committee}
 use Rattle.index.specs.Keys.{referenceKey}
 use Rattle.index.specs.Search.{Indexed}
 use Rattle.offers.proofs.Climb.{has-rowOf}
-use Rattle.offers.proofs.Sound.{enter-loop, included-append, included-one}
-use Rattle.offers.specs.Blocks.{Block, State, has, held, isKnown, included}
+use Rattle.offers.proofs.Kept.{kept-store}
+use Rattle.offers.proofs.Sound.{sound-good, enter-loop, included-append, included-one}
+use Rattle.offers.specs.Blocks.{Block, State, has, held, isKnown, included, refs}
 use Rattle.offers.specs.Climb.{climb}
-use Rattle.offers.specs.Exact.{firstAt}
+use Rattle.offers.specs.Exact.{count, firstAt}
 use Rattle.offers.specs.Offers.{Limits, Outcome, reportedOffer, full, goodArgument, wait, enter, offer}
 use Rattle.offers.specs.declared.Offered.{Offered}
 use Rattle.offers.specs.declared.Offered.the-variants.{Refused, Known, Pending, Stored}
@@ -130,31 +132,26 @@ module _ (size B R : ℕ) (blocks includes waiting named : List ℕ) (c : Counts
     unfolding full
     full-includes h = rw rows-left (lt-ltb R (included (st .stored) + included (st .pending) + length (b .includes)) (omega (arith, length-refsIn list, m .holds .stored-side .total-is, m .holds .pending-side .total-is)))
 
-    pub not-full : c .included + c .named + length list / 6 ≤ R → full lim st b ≡ false
+    not-full : c .included + c .named + length list / 6 ≤ R → full lim st b ≡ false
     unfolding full
     not-full h = rw rows-left (le-ltb R (included (st .stored) + included (st .pending) + length (b .includes)) (omega (arith, length-refsIn list, m .holds .stored-side .total-is, m .holds .pending-side .total-is)))
 
-  -- whether the includes are stored
-  pub stored-all : held (st .stored) (b .includes) ≡ allAmong (refRows blocks 0 (c .stored)) (refsIn list)
-  stored-all =
-      held-all (st .stored) (refsIn list)
-      ∙ ap (λ (l : List BlockReference). allAmong l (refsIn list)) (sym (refs-of-rows B (st .stored)) ∙ ap (λ (l : List ℕ). refRows l 0 (length (st .stored))) (sym (m .holds .stored-side .rows-are)) ∙ ap (λ (n : ℕ). refRows blocks 0 n) (sym (m .holds .stored-side .count-is)))
-
   -- ---- the block waits
 
-  pub can-wait : c .stored + c .pending < B → c .included + c .named + length list / 6 ≤ R → CanWait (length waiting / 8) (length named / 6) waiting named (c .pending) (c .named) list
+  can-wait : c .stored + c .pending < B → c .included + c .named + length list / 6 ≤ R → CanWait (length waiting / 8) (length named / 6) waiting named (c .pending) (c .named) list
   can-wait space room =
       let side : PendingAs (length waiting / 8) (length named / 6) waiting named (c .pending) (c .named) (st .pending) = sized B R waiting named (c .pending) (c .named) (st .pending) (m .holds .pending-side) in
       let rows : length waiting / 8 ≡ B = omega (arith, Rattle.block_tables.proofs.Holding.length-waiting B R waiting named (c .pending) (c .named) (st .pending) (m .holds .pending-side)) in
       let names : length named / 6 ≡ R = omega (arith, Rattle.block_tables.proofs.Holding.length-named-table B R waiting named (c .pending) (c .named) (st .pending) (m .holds .pending-side)) in
       record { side = side; one-more = omega arith; some-more = omega arith; whole = m .whole }
 
-  pub now-waits : c .stored + c .pending < B → c .included + c .named + length list / 6 ≤ R → (waiting' named' : List ℕ)
+  now-waits : c .stored + c .pending < B → c .included + c .named + length list / 6 ≤ R → (blocks' includes' waiting' named' : List ℕ) → (blocks' ≡ blocks) × (includes' ≡ includes)
       → PendingAs (length waiting / 8) (length named / 6) waiting' named' (c .pending + 1) (c .named + length list / 6) (st .pending ++ b ∷ [])
-      → Holds B R blocks includes waiting' named' (record { stored = c .stored; included = c .included; pending = c .pending + 1; named = c .named + length list / 6 }) (wait st b)
-  now-waits space room waiting' named' p =
+      → Holds B R blocks' includes' waiting' named' (record { stored = c .stored; included = c .included; pending = c .pending + 1; named = c .named + length list / 6 }) (wait st b)
+  now-waits space room blocks' includes' waiting' named' same p =
       record {
-        stored-side = m .holds .stored-side;
+        stored-side = subst (λ (l : List ℕ). StoredAs B R l includes' (c .stored) (c .included) (st .stored)) (sym (same .0))
+            (subst (λ (l : List ℕ). StoredAs B R blocks l (c .stored) (c .included) (st .stored)) (sym (same .1)) (m .holds .stored-side));
         pending-side = unsized B R waiting named waiting' named' (c .pending) (c .named) (c .pending + 1) (c .named + length list / 6) (st .pending) (st .pending ++ b ∷ []) (m .holds .pending-side) p;
         space = omega (arith, m .holds .stored-side .count-is, m .holds .pending-side .count-is, length-append (st .pending) (b ∷ []));
         room = omega (arith, m .holds .stored-side .total-is, m .holds .pending-side .total-is, included-append (st .pending) (b ∷ []), included-one b, length-refsIn list);
@@ -167,46 +164,52 @@ pub good-same : (size B R : ℕ) (b : Block) → goodArgument (limitsOf size B R
 unfolding goodArgument
 good-same size B R b = refl
 
--- ---- the block went in: the answer
+-- ---- past the tests of the block
 
-module _ (size B R : ℕ) (blocks includes waiting named : List ℕ) (c : Counts) (x : BlockReference) (list : List ℕ) (m : CanOffer size B R blocks includes waiting named c list)
-    (blocks' includes' waiting' named' : List ℕ) (d : Counts) (h : Holds B R blocks' includes' waiting' named' d (enter (stateIn blocks includes waiting named c) (blockOf x list))) where
-  abbrev before : State
-  before = stateIn blocks includes waiting named c
+-- the block is good and new, and there is room for it
+pub record Fresh (size B R : ℕ) (blocks includes waiting named : List ℕ) (c : Counts) (x : BlockReference) (list : List ℕ) : Type 0 where
+  pub can-offer : CanOffer size B R blocks includes waiting named c list
+  pub good : goodArgument (limitsOf size B R) (blockOf x list) ≡ true
+  pub new : isKnown (stateIn blocks includes waiting named c) x ≡ false
+  pub one-more : c .stored + c .pending < B
+  pub some-more : c .included + c .named + length list / 6 ≤ R
 
-  -- the store only grows
-  pub grown : c .stored ≤ d .stored
-  grown =
-      let g = Rattle.offers.proofs.Theorem.enter-grows before (blockOf x list) in
-      omega (arith, g, h .stored-side .count-is, m .holds .stored-side .count-is)
-
-  pub entered : {o : Outcome} → o ≡ record { answer = Stored (length (enter before (blockOf x list) .stored) - length (before .stored)); state = enter before (blockOf x list) }
-      → (Stored (d .stored - c .stored) ≡ o .answer) × (tablesOf blocks' includes' (d .stored) waiting' named' (d .pending) ≡ encode B R (o .state))
-  entered {o} e =
-      let by : d .stored - c .stored ≡ length (enter before (blockOf x list) .stored) - length (before .stored) = omega (arith, h .stored-side .count-is, m .holds .stored-side .count-is) in
-      (ap Stored by ∙ sym (ap (λ (p : Outcome). p .answer) e), holds-encode B R blocks' includes' waiting' named' d (enter before (blockOf x list)) h ∙ sym (ap (λ (p : Outcome). encode B R (p .state)) e))
-
--- ---- the block goes in
-
-module _ (size B R : ℕ) (blocks includes waiting named : List ℕ) (c : Counts) (x : BlockReference) (list : List ℕ) (m : CanEnter size B R blocks includes waiting named c x list) where
+module _ (size B R : ℕ) (blocks includes waiting named : List ℕ) (c : Counts) (x : BlockReference) (list : List ℕ) (m : Fresh size B R blocks includes waiting named c x list) where
   abbrev st0 : State
   st0 = stateIn blocks includes waiting named c
 
   abbrev new-block : Block
   new-block = blockOf x list
 
-  abbrev first-state : State
-  first-state = record { stored = st0 .stored ++ new-block ∷ []; pending = st0 .pending }
+  abbrev offered : Outcome
+  offered = offer (limitsOf size B R) st0 new-block
 
-  pub can-store-first : CanStore B R blocks includes (c .stored) (c .included) list
-  can-store-first =
+  has-space : full (limitsOf size B R) st0 new-block ≡ false
+  has-space = not-full size B R blocks includes waiting named c x list (m .can-offer) (m .one-more) (m .some-more)
+
+  pub has-room : HasRoom B R blocks includes (c .stored) (c .included) list
+  has-room =
       record {
         side = m .can-offer .holds .stored-side;
-        ready = m .ready;
         one-more = omega (arith, m .one-more);
         some-more = omega (arith, m .some-more);
         whole = m .can-offer .whole;
       }
+
+  pub may-wait : CanWait (length waiting / 8) (length named / 6) waiting named (c .pending) (c .named) list
+  may-wait = can-wait size B R blocks includes waiting named c x list (m .can-offer) (m .one-more) (m .some-more)
+
+  -- the block waits
+  pub waits : held (st0 .stored) (refsIn list) ≡ false → (blocks' includes' waiting' named' : List ℕ) → (blocks' ≡ blocks) × (includes' ≡ includes)
+      → PendingAs (length waiting / 8) (length named / 6) waiting' named' (c .pending + 1) (c .named + length list / 6) (st0 .pending ++ new-block ∷ [])
+      → (Pending ≡ offered .answer) × (tablesOf blocks' includes' (c .stored) waiting' named' (c .pending + 1) ≡ encode B R (offered .state))
+  waits lacking blocks' includes' waiting' named' same p =
+      answered B R blocks' includes' waiting' named' _ (wait st0 new-block) offered Pending (offer-waits (limitsOf size B R) st0 new-block (m .good) (m .new) has-space lacking)
+      (now-waits size B R blocks includes waiting named c x list (m .can-offer) (m .one-more) (m .some-more) blocks' includes' waiting' named' same p)
+
+  -- the block goes in
+  abbrev first-state : State
+  first-state = record { stored = st0 .stored ++ new-block ∷ []; pending = st0 .pending }
 
   module _ (blocks' includes' : List ℕ) (s : StoredAs B R blocks' includes' (c .stored + 1) (c .included + length list / 6) (st0 .stored ++ new-block ∷ [])) where
     abbrev start : Counts
@@ -226,7 +229,7 @@ module _ (size B R : ℕ) (blocks includes waiting named : List ℕ) (c : Counts
     first-is : stateIn blocks' includes' waiting named start ≡ first-state
     first-is = state-is B R blocks' includes' waiting named start first-state first-holds
 
-    pub can-climb : CanClimb (length blocks' / 8) (length includes') blocks' includes' waiting named start
+    can-climb : CanClimb (length blocks' / 8) (length includes') blocks' includes' waiting named start
     can-climb =
         record {
           holds = subst (λ (t : State). Holds (length blocks' / 8) (length includes') blocks' includes' waiting named start t) (sym first-is) (resize B R blocks' includes' waiting named start first-state first-holds);
@@ -234,26 +237,55 @@ module _ (size B R : ℕ) (blocks includes waiting named : List ℕ) (c : Counts
         }
 
     -- the rows before it are still in order
-    pub front-first : (order : List ℕ) → Indexed (referenceKey blocks) (c .stored) order → FrontIndexed blocks' order (c .stored + 1 - 1) (c .stored + 1)
+    front-first : (order : List ℕ) → Indexed (referenceKey blocks) (c .stored) order → FrontIndexed blocks' order (c .stored + 1 - 1) (c .stored + 1)
     front-first order ix =
         let e : c .stored ≡ c .stored + 1 - 1 = omega arith in
         subst (λ (k : ℕ). FrontIndexed blocks' order k (c .stored + 1)) e
         (front-kept B R blocks includes (c .stored) (c .included) (st0 .stored) (m .can-offer .holds .stored-side) blocks' includes' (c .stored + 1) (c .included + length list / 6) new-block s order (c .stored) (whole-front blocks order (c .stored) ix))
 
-    pub now-entered : (blocks'' includes'' waiting'' named'' : List ℕ) (d : Counts)
-        → Holds (length blocks' / 8) (length includes') blocks'' includes'' waiting'' named'' d (climb (2 * c .pending + 1) (c .stored + 1 - 1) (c .stored + 1) (stateIn blocks' includes' waiting named start))
-        → Holds B R blocks'' includes'' waiting'' named'' d (enter st0 new-block)
-    now-entered blocks'' includes'' waiting'' named'' d h =
-        let e0 : c .stored + 1 - 1 ≡ length (st0 .stored) = omega (arith, m .can-offer .holds .stored-side .count-is) in
-        let e1 : c .stored + 1 ≡ suc (length (st0 .stored)) = omega (arith, m .can-offer .holds .stored-side .count-is) in
-        let same : climb (2 * c .pending + 1) (c .stored + 1 - 1) (c .stored + 1) (stateIn blocks' includes' waiting named start) ≡ enter st0 new-block =
-        ap (climb (2 * c .pending + 1) (c .stored + 1 - 1) (c .stored + 1)) first-is
-        ∙ ap (λ (k : ℕ). climb (2 * c .pending + 1) k (c .stored + 1) first-state) e0
-        ∙ ap (λ (k : ℕ). climb (2 * c .pending + 1) (length (st0 .stored)) k first-state) e1
-        ∙ ap (λ (k : ℕ). climb (2 * k + 1) (length (st0 .stored)) (suc (length (st0 .stored))) first-state) (m .can-offer .holds .pending-side .count-is)
-        ∙ sym (enter-loop (limitsOf size B R) st0 new-block (m .can-offer .sound) (m .new) (m .ready)) in
-        subst (λ (t : State). Holds B R blocks'' includes'' waiting'' named'' d t) same
-        (unresize B R blocks' includes' waiting named start first-state first-holds blocks'' includes'' waiting'' named'' d (climb (2 * c .pending + 1) (c .stored + 1 - 1) (c .stored + 1) (stateIn blocks' includes' waiting named start)) h)
+    -- no reference is stored or waits twice
+    once-first : held (st0 .stored) (refsIn list) ≡ true → (r : BlockReference) → count (refs (first-state .stored)) r + count (refs (first-state .pending)) r ≤ 1
+    once-first ready r =
+        let g = sound-good (limitsOf size B R) st0 (m .can-offer .sound) in
+        let k = kept-store (st0 .stored ++ st0 .pending) st0 new-block (g .kept) (m .new) ready in
+        omega (arith, k .counts r, k .once r)
+
+    pub can-release : held (st0 .stored) (refsIn list) ≡ true → (order others : List ℕ) → Indexed (referenceKey blocks) (c .stored) order → Indexed (referenceKey waiting) (c .pending) others
+        → CanRelease (length blocks' / 8) (length includes') blocks' includes' waiting named order others start
+    can-release ready order others ix ox =
+        record {
+          can-climb = can-climb;
+          index = front-first order ix;
+          others-index = ox;
+          once = subst (λ (t : State). (r : BlockReference) → count (refs (t .stored)) r + count (refs (t .pending)) r ≤ 1) (sym first-is) (once-first ready);
+        }
+
+    module _ (ready : held (st0 .stored) (refsIn list) ≡ true) (blocks'' includes'' waiting'' named'' : List ℕ) (d : Counts)
+        (h : Holds (length blocks' / 8) (length includes') blocks'' includes'' waiting'' named'' d (climb (2 * c .pending + 1) (c .stored + 1 - 1) (c .stored + 1) (stateIn blocks' includes' waiting named start))) where
+      now-entered : Holds B R blocks'' includes'' waiting'' named'' d (enter st0 new-block)
+      now-entered =
+          let e0 : c .stored + 1 - 1 ≡ length (st0 .stored) = omega (arith, m .can-offer .holds .stored-side .count-is) in
+          let e1 : c .stored + 1 ≡ suc (length (st0 .stored)) = omega (arith, m .can-offer .holds .stored-side .count-is) in
+          let same : climb (2 * c .pending + 1) (c .stored + 1 - 1) (c .stored + 1) (stateIn blocks' includes' waiting named start) ≡ enter st0 new-block =
+          ap (climb (2 * c .pending + 1) (c .stored + 1 - 1) (c .stored + 1)) first-is
+          ∙ ap (λ (k : ℕ). climb (2 * c .pending + 1) k (c .stored + 1) first-state) e0
+          ∙ ap (λ (k : ℕ). climb (2 * c .pending + 1) (length (st0 .stored)) k first-state) e1
+          ∙ ap (λ (k : ℕ). climb (2 * k + 1) (length (st0 .stored)) (suc (length (st0 .stored))) first-state) (m .can-offer .holds .pending-side .count-is)
+          ∙ sym (enter-loop (limitsOf size B R) st0 new-block (m .can-offer .sound) (m .new) ready) in
+          subst (λ (t : State). Holds B R blocks'' includes'' waiting'' named'' d t) same
+          (unresize B R blocks' includes' waiting named start first-state first-holds blocks'' includes'' waiting'' named'' d (climb (2 * c .pending + 1) (c .stored + 1 - 1) (c .stored + 1) (stateIn blocks' includes' waiting named start)) h)
+
+      -- the store only grows
+      pub grown : c .stored ≤ d .stored
+      grown =
+          let g = Rattle.offers.proofs.Theorem.enter-grows st0 new-block in
+          omega (arith, g, now-entered .stored-side .count-is, m .can-offer .holds .stored-side .count-is)
+
+      pub entered : (Stored (d .stored - c .stored) ≡ offered .answer) × (tablesOf blocks'' includes'' (d .stored) waiting'' named'' (d .pending) ≡ encode B R (offered .state))
+      entered =
+          let by : d .stored - c .stored ≡ length (enter st0 new-block .stored) - length (st0 .stored) = omega (arith, now-entered .stored-side .count-is, m .can-offer .holds .stored-side .count-is) in
+          answered B R blocks'' includes'' waiting'' named'' d (enter st0 new-block) offered (Stored (d .stored - c .stored))
+          (offer-stored (limitsOf size B R) st0 new-block (m .good) (m .new) has-space ready ∙ ap (λ (k : ℕ). record { answer = Stored k; state = enter st0 new-block }) (sym by)) now-entered
 
 -- ---- the call past the tests of committee and list
 

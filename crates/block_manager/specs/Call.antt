@@ -1,26 +1,24 @@
 -- One offer to lent tables: document 01, "Offers" and "Numbers sent back"; block_manager.rs, add_blocks. Assumes nothing: these are definitions.
-use mathlib.Core.Path.{_≡_}
-use mathlib.Core.Bool.{true, false, cond, _&&_}
-use mathlib.Core.List.{List}
-use Prim.Native.Nat.{ℕ, _+_, _/_, _%_, _≤_, _<_}
-use lib.ListN.{length}
+use Prim.Native.Nat.{ℕ, _/_, _%_}
 use lib.Dec.{eqb}
-use Rattle.types.specs.declared.reference.BlockReference.{BlockReference}
-use Rattle.types.specs.declared.refusal.Refusal.the-variants.{BadCommittee, BadTable}
-use Rattle.types.specs.Limits.{blockWords, referenceWords}
-use Rattle.types.specs.References.{refsIn}
-use Rattle.types.specs.Reports.{Report}
-use Rattle.committee.specs.declared.Committee.{Committee}
-use Rattle.committee.specs.Committees.{soundOf}
-use Rattle.offers.specs.declared.Offered.{Offered}
-use Rattle.offers.specs.declared.Offered.the-variants.{Refused}
-use Rattle.offers.specs.Blocks.{held, isKnown}
-use Rattle.offers.specs.Offers.{Outcome, reportedOffer, offer}
-use Rattle.offers.specs.Sound.{Sound}
-use Rattle.block_tables.specs.declared.Counts.{Counts}
-use Rattle.block_tables.specs.Words.{Tables, encode, decode}
+use lib.ListN.{length}
+use mathlib.Core.Bool.{cond, _&&_}
+use mathlib.Core.List.{List}
+use mathlib.Core.Path.{_≡_}
 use Rattle.block_tables.specs.Holding.{Holds, blockOf, stateIn}
 use Rattle.block_tables.specs.Sound.{soundTables, limitsOf, limitsIn}
+use Rattle.block_tables.specs.Words.{Tables, encode, decode}
+use Rattle.block_tables.specs.declared.Counts.{Counts}
+use Rattle.committee.specs.Committees.{soundOf}
+use Rattle.committee.specs.declared.Committee.{Committee}
+use Rattle.offers.specs.Offers.{Outcome, reportedOffer, offer}
+use Rattle.offers.specs.Sound.{Sound}
+use Rattle.offers.specs.declared.Offered.{Offered}
+use Rattle.offers.specs.declared.Offered.the-variants.{Refused}
+use Rattle.types.specs.Limits.{blockWords, referenceWords}
+use Rattle.types.specs.Reports.{Report}
+use Rattle.types.specs.declared.reference.BlockReference.{BlockReference}
+use Rattle.types.specs.declared.refusal.Refusal.the-variants.{BadCommittee, BadTable}
 
 -- what the offer does to the state that sound tables hold
 abbrev pub outcome : ℕ → Tables → BlockReference → List ℕ → Outcome
@@ -55,11 +53,3 @@ pub record CanOffer (size B R : ℕ) (blocks includes waiting named : List ℕ) 
   pub holds : Holds B R blocks includes waiting named c (stateIn blocks includes waiting named c)
   pub sound : Sound (limitsOf size B R) (stateIn blocks includes waiting named c)
   pub whole : length list % referenceWords ≡ 0
-
--- and the block is new, there is room for it, and all its includes are stored
-pub record CanEnter (size B R : ℕ) (blocks includes waiting named : List ℕ) (c : Counts) (x : BlockReference) (list : List ℕ) : Type 0 where
-  pub can-offer : CanOffer size B R blocks includes waiting named c list
-  pub new : isKnown (stateIn blocks includes waiting named c) x ≡ false
-  pub ready : held (stateIn blocks includes waiting named c .stored) (refsIn list) ≡ true
-  pub one-more : c .stored + c .pending < B
-  pub some-more : c .included + c .named + length list / referenceWords ≤ R

@@ -9,21 +9,24 @@ use types::BlockReference;
 use types::reference::REFERENCE_WORDS;
 use types::words::word;
 ghost use mathlib.Core.Path.{_≡_};
+ghost use mathlib.Core.Bool.{true, false, cond};
 ghost use mathlib.Core.List.{map, [], _∷_, _++_};
 ghost use Prim.Native.Nat.{suc, _+_, _*_, _-_, _/_, _≤_};
-ghost use lib.ListN.{length, take, drop};
+ghost use lib.ListN.{length, take, drop, replicate};
 ghost use lib.Seq.{sets};
 ghost use Rattle.types.specs.Limits.{blockWords, referenceWords};
 ghost use Rattle.types.specs.References.{refsIn};
 ghost use Rattle.block_store.specs.Store.{fieldOf};
+ghost use Rattle.offers.specs.Blocks.{held};
 ghost use Rattle.offers.specs.Exact.{firstAt};
 ghost use Rattle.block_tables.specs.Words.{refRows, rowWords, storedIn, pendingIn};
 ghost use Rattle.block_tables.specs.Edits.{cut, rebase};
-ghost use Rattle.block_tables.specs.Reading.{FrontIndexed};
-ghost use Rattle.block_tables.specs.Holding.{StoredAs, PendingAs, CanStore, CanWait, CanTake, blockOf};
+ghost use Rattle.block_tables.specs.Reading.{FrontIndexed, allAmong};
+ghost use Rattle.block_tables.specs.Holding.{StoredAs, PendingAs, CanWait, CanTake, blockOf};
+ghost use Rattle.block_manager.specs.Room.{Unused, HasRoom};
 
 // Writes a row.
-fn put_row(blocks: &mut [u64], row: usize, x: BlockReference, first: usize, count: usize)
+pub(crate) fn put_row(blocks: &mut [u64], row: usize, x: BlockReference, first: usize, count: usize)
     requires { ⌜ row * blockWords + blockWords ≤ length (now blocks) ⌝ }
     ensures { λ _. ⌜ now (blocks .exit) ≡ sets (now (blocks .entry)) (row * blockWords) (rowWords x first count) ⌝ }
 {
@@ -45,7 +48,19 @@ fn put_words(w: &mut [u64], at: usize, list: &[u64])
     }
 }
 
-// Writes, from `at` on, the rows of the references of a list; `order` has the first `sorted` rows in order.
+// Clears n words from `at` on.
+fn erase(w: &mut [u64], at: usize, n: usize)
+    requires { ⌜ at + n ≤ length (now w) ⌝ }
+    ensures { λ _. ⌜ now (w .exit) ≡ sets (now (w .entry)) at (replicate n 0) ⌝ }
+{
+    let mut i = 0;
+    while i < n {
+        w[at + i] = 0;
+        i += 1;
+    }
+}
+
+// Writes, from `at` on where all is 0, the rows of the references of a list, if each has one; `order` has the first `sorted` rows in order.
 fn put_rows(
     includes: &mut [u64],
     at: usize,
@@ -54,19 +69,25 @@ fn put_rows(
     sorted: usize,
     stored: usize,
     list: &[u64],
-)
+) -> bool
     requires { ⌜ FrontIndexed (now blocks) (now order) sorted stored ⌝ }
-    requires { ⌜ at + length (now list) / referenceWords ≤ length (now includes) ⌝ }
-    ensures { λ _. ⌜ now (includes .exit) ≡ sets (now (includes .entry)) at (map (firstAt (refRows (now (blocks .entry)) 0 stored)) (refsIn (now (list .entry)))) ⌝ }
+    requires { ⌜ Unused (now includes) at (length (now list) / referenceWords) ⌝ }
+    ensures { λ r. ⌜ r ≡ allAmong (refRows (now (blocks .entry)) 0 stored) (refsIn (now (list .entry))) ⌝ }
+    ensures written { λ r. ⌜ now (includes .exit) ≡ cond r (sets (now (includes .entry)) at (map (firstAt (refRows (now (blocks .entry)) 0 stored)) (refsIn (now (list .entry))))) (now (includes .entry)) ⌝ }
 {
     let n = list.len() / REFERENCE_WORDS;
     let mut k = 0;
     while k < n {
         let x = reference_in(list, k);
         let row = row_in(blocks, order, sorted, stored, x);
+        if stored <= row {
+            erase(includes, at, n);
+            return false;
+        }
         includes[at + k] = row as u64;
         k += 1;
     }
+    true
 }
 
 // Takes out n words from `at` on: those up to `end` move down, and zeros follow.
@@ -106,7 +127,7 @@ fn rebase(blocks: &mut [u64], from: usize, to: usize, n: usize)
     }
 }
 
-// A block, whose includes are all stored, goes into the store as its last row; `order` has the first `sorted` rows in order.
+// A block goes into the store as its last row, if each of its includes is stored; `order` has the first `sorted` rows in order.
 pub(crate) fn store_block(
     blocks: &mut [u64],
     includes: &mut [u64],
@@ -116,14 +137,19 @@ pub(crate) fn store_block(
     included: usize,
     x: BlockReference,
     list: &[u64],
-)
+) -> bool
     requires { ⌜ FrontIndexed (now blocks) (now order) sorted stored ⌝ }
-    requires { ⌜ CanStore (length (now blocks) / blockWords) (length (now includes)) (now blocks) (now includes) stored included (now list) ⌝ }
-    ensures { λ _. ⌜ StoredAs (length (now (blocks .entry)) / blockWords) (length (now (includes .entry))) (now (blocks .exit)) (now (includes .exit)) (stored + 1) (included + length (now (list .entry)) / referenceWords) (storedIn (now (blocks .entry)) (now (includes .entry)) stored ++ blockOf x (now (list .entry)) ∷ []) ⌝ }
+    requires { ⌜ HasRoom (length (now blocks) / blockWords) (length (now includes)) (now blocks) (now includes) stored included (now list) ⌝ }
+    ensures { λ r. ⌜ r ≡ held (storedIn (now (blocks .entry)) (now (includes .entry)) stored) (refsIn (now (list .entry))) ⌝ }
+    ensures stores { λ r. ⌜ (r ≡ true → StoredAs (length (now (blocks .entry)) / blockWords) (length (now (includes .entry))) (now (blocks .exit)) (now (includes .exit)) (stored + 1) (included + length (now (list .entry)) / referenceWords) (storedIn (now (blocks .entry)) (now (includes .entry)) stored ++ blockOf x (now (list .entry)) ∷ [])) ⌝ }
+    ensures keeps { λ r. ⌜ (r ≡ false → (now (blocks .exit) ≡ now (blocks .entry)) × (now (includes .exit) ≡ now (includes .entry))) ⌝ }
 {
     let count = list.len() / REFERENCE_WORDS;
-    put_rows(includes, included, blocks, order, sorted, stored, list);
+    if !put_rows(includes, included, blocks, order, sorted, stored, list) {
+        return false;
+    }
     put_row(blocks, stored, x, included, count);
+    true
 }
 
 // A block waits, as the last pending row.

@@ -1,12 +1,11 @@
 // One offer: add_block.
 use crate::OfferAnswer;
-use crate::cascade::cascade;
 use crate::edit::store_block;
 use crate::edit::wait_block;
+use crate::release::release;
 use block_store::parts::BLOCK_WORDS;
 use block_store::sound::MAX_BLOCKS;
 use block_tables::Counts;
-use block_tables::indexed::all_in;
 use block_tables::indexed::row_in;
 use block_tables::sound::all_below;
 use block_tables::sound::counts_in;
@@ -26,11 +25,11 @@ ghost use lib.ListN.{length};
 ghost use Rattle.types.specs.Limits.{blockWords, referenceWords};
 ghost use Rattle.index.specs.Keys.{referenceKey};
 ghost use Rattle.index.specs.Search.{Indexed};
-ghost use Rattle.offers.specs.Offers.{reportedOffer, goodArgument, enter, offer};
+ghost use Rattle.offers.specs.Offers.{reportedOffer, goodArgument, offer};
 ghost use Rattle.block_tables.specs.Words.{tablesOf, encode};
-ghost use Rattle.block_tables.specs.Holding.{Holds, blockOf, stateIn};
+ghost use Rattle.block_tables.specs.Holding.{blockOf, stateIn};
 ghost use Rattle.block_tables.specs.Sound.{soundTables, soundBy, limitsOf};
-ghost use Rattle.block_manager.specs.Call.{addBlock, tablesAfter, answerBy, tablesBy, CanOffer, CanEnter};
+ghost use Rattle.block_manager.specs.Call.{addBlock, tablesAfter, answerBy, tablesBy, CanOffer};
 
 // Whether the block's numbers are within limits, and each include has a smaller round.
 fn good_block(size: u64, x: BlockReference, list: &[u64]) -> bool
@@ -48,37 +47,6 @@ fn good_block(size: u64, x: BlockReference, list: &[u64]) -> bool
     all_below(size, x.round, list)
 }
 
-// A new block, whose includes are all stored, goes in, and then whatever it lets in; `order` has the stored rows in order.
-fn enter_block(
-    blocks: &mut [u64],
-    includes: &mut [u64],
-    waiting: &mut [u64],
-    named: &mut [u64],
-    order: &[u16],
-    c: Counts,
-    size: u64,
-    x: BlockReference,
-    list: &[u64],
-) -> Counts
-    requires { ⌜ Indexed (referenceKey (now blocks)) (c .stored) (now order) ⌝ }
-    requires { ⌜ CanEnter size (length (now blocks) / blockWords) (length (now includes)) (now blocks) (now includes) (now waiting) (now named) c x (now list) ⌝ }
-    ensures { λ r. ⌜ Holds (length (now (blocks .entry)) / blockWords) (length (now (includes .entry))) (now (blocks .exit)) (now (includes .exit)) (now (waiting .exit)) (now (named .exit)) r (enter (stateIn (now (blocks .entry)) (now (includes .entry)) (now (waiting .entry)) (now (named .entry)) c) (blockOf x (now (list .entry)))) ⌝ }
-{
-    let stored = c.stored;
-    let included = c.included;
-    let pending = c.pending;
-    let total = c.named;
-    let count = list.len() / REFERENCE_WORDS;
-    store_block(blocks, includes, order, stored, stored, included, x, list);
-    let start = Counts {
-        stored: stored + 1,
-        included: included + count,
-        pending,
-        named: total,
-    };
-    cascade(blocks, includes, waiting, named, order, start)
-}
-
 // An offer to sound tables; `order` has the stored rows in order, and `others` the pending ones.
 fn offer_sound(
     blocks: &mut [u64],
@@ -87,6 +55,7 @@ fn offer_sound(
     named: &mut [u64],
     order: &[u16],
     others: &[u16],
+    work: &mut [u16],
     c: Counts,
     size: u64,
     x: BlockReference,
@@ -138,8 +107,14 @@ fn offer_sound(
             pending,
         };
     }
-    if all_in(blocks, order, stored, stored, list) {
-        let d = enter_block(blocks, includes, waiting, named, order, c, size, x, list);
+    if store_block(blocks, includes, order, stored, stored, included, x, list) {
+        let start = Counts {
+            stored: stored + 1,
+            included: included + count,
+            pending,
+            named: total,
+        };
+        let d = release(blocks, includes, waiting, named, order, others, work, start);
         let grown = d.stored - stored;
         return OfferAnswer {
             answer: Offered::Stored(grown),
@@ -201,6 +176,7 @@ fn offer_by(
         named,
         order,
         others,
+        work,
         c,
         size,
         x,

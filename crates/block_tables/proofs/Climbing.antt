@@ -102,6 +102,15 @@ module _ (B R : ℕ) (goal : State) (first : ℕ) (blocks includes waiting named
     one-less : steps ≡ suc (steps - 1)
     one-less = omega arith
 
+    -- from the row right behind `first`, where nothing is let in, nothing else happens
+    pub turn-still : c .pending ≤ row → at ≤ suc first → Holds B R blocks includes waiting named c goal
+    turn-still h near =
+        let none : length (t .st .pending) ≤ firstFreed (t .st .stored) x (t .st .pending) = omega (arith, row-is, t .holds .pending-side .count-is) in
+        let lower = back-lower (t .st .stored) at (t .holds .stored-side .ordered) (omega arith) (t .at-row) in
+        subst (λ (s : State). Holds B R blocks includes waiting named c s)
+        (sym (ap (λ (n : ℕ). climb n first at (t .st)) one-less ∙ climb-back (steps - 1) first at (t .st) x x-is above none ∙ climb-end (steps - 1) first (back (t .st .stored) at) (t .st) (omega (arith, lower))) ∙ t .same)
+        (t .holds)
+
     module _ (h : row < c .pending) where
       lets-in : firstFreed (t .st .stored) x (t .st .pending) < length (t .st .pending)
       lets-in = omega (arith, row-is, t .holds .pending-side .count-is)

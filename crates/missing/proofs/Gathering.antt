@@ -1,31 +1,35 @@
 -- The missing list: the loop's invariant, one law for each way round and out, and that it is the missing list of `offers`. Assumes nothing.
 use Prim.Native.Nat.{ℕ, _+_, _-_, _*_, _/_, _%_, _≤_, _<_}
-use borrow.Author.Tests.{le-leb, lt-leb, lt-ltb, le-ltb, eq-eqb, ne-eqb}
-use lib.ListN.{length, take, drop, replicate, length-append}
-use lib.Seq.{sets, take-at}
-use mathlib.Core.Bool.{Bool, true, false, cond}
+use borrow.Author.Tests.{le-leb, lt-leb, lt-ltb, le-ltb, eq-eqb, ne-eqb, eqb-true}
+use lib.Dec.{eqb, leb}
+use lib.ListN.{length, getD, take, drop, replicate, length-append, length-drop, length-replicate, getD-replicate, List·getD-eq-default}
+use lib.Seq.{take-at, getD-drop, ext-getD, length-take-le}
+use mathlib.Core.Bool.{Bool, true, false, cond, not, _&&_, _||_}
 use mathlib.Core.List.{List, [], _∷_, _++_}
-use mathlib.Core.Path.{_≡_, refl, sym, ap, _∙_}
+use mathlib.Core.Logic.{⊎-elim}
+use mathlib.Core.Path.{_≡_, refl, sym, ap, _∙_, subst}
 use native.Mathlib.Omega.{arith}
 use Rattle.block_tables.proofs.Holding.{refs-from, length-named-table}
-use Rattle.block_tables.proofs.Loops.{refs-next, refs-end, among-at, length-refRows, put-at}
+use Rattle.block_tables.proofs.Loops.{refs-next, refs-end, among-at, length-refRows, length-put}
 use Rattle.block_tables.proofs.State.{tested-holds}
-use Rattle.block_tables.proofs.Testing.{and-yes}
-use Rattle.block_tables.proofs.Words.{words-append, length-words, length-named, refs-words, length-pad, pad-more}
+use Rattle.block_tables.proofs.Testing.{and-yes, used-bound}
+use Rattle.block_tables.proofs.Words.{length-words, length-named, refs-words}
 use Rattle.block_tables.specs.Edits.{putAt}
 use Rattle.block_tables.specs.Holding.{Holds}
 use Rattle.block_tables.specs.Sound.{usedIn, countsIn, soundTables}
 use Rattle.block_tables.specs.Words.{refRows, Tables, wordsOfAll, refsOfRows, pad, namedTable, decode}
 use Rattle.committee.specs.Committees.{soundOf}
 use Rattle.committee.specs.declared.Committee.{Committee}
-use Rattle.missing.specs.Missing.{reportedMissing, wantedIn, gatherIn, listed, listArea, missingBy, areaBy, missingBlocks, missingArea}
+use Rattle.missing.proofs.Links.{length-own, rows-more, free-more, tree-more}
+use Rattle.missing.specs.Missing.{reportedMissing, unknownIn, wantedIn, gatherIn, listed, listArea, missingBy, areaBy, missingBlocks, missingArea}
+use Rattle.missing.specs.Tree.{ownedOf, ownRows, linkLimit, Tree, Hung}
 use Rattle.missing.specs.declared.Missing.{Missing}
 use Rattle.missing.specs.declared.Missing.the-variants.{Found, Refused}
 use Rattle.offers.specs.Blocks.{State, among, has, isKnown, refs, named, included}
 use Rattle.offers.specs.Exact.{firstAt}
 use Rattle.offers.specs.Missing.{wanted, gather, missing}
 use Rattle.types.proofs.Reports.{numberOf-one}
-use Rattle.types.proofs.Tests.{and-false}
+use Rattle.types.proofs.Tests.{and-false, both-left, lt-or-le}
 use Rattle.types.specs.References.{refAt, refsIn, wordsOf}
 use Rattle.types.specs.Reports.{Gives, numberOf}
 use Rattle.types.specs.declared.reference.BlockReference.{BlockReference}
@@ -38,6 +42,9 @@ row-has w n x h = among-at (refRows w 0 n) x ∙ lt-ltb (firstAt (refRows w 0 n)
 pub row-lacks : (w : List ℕ) (n : ℕ) (x : BlockReference) → n ≤ firstAt (refRows w 0 n) x → among (refRows w 0 n) x ≡ false
 row-lacks w n x h = among-at (refRows w 0 n) x ∙ le-ltb (firstAt (refRows w 0 n) x) (length (refRows w 0 n)) (omega (arith, length-refRows w 0 n))
 
+zeros-at : (m i : ℕ) → _≡_ {A = ℕ} (getD (replicate m 0) i 0) 0
+zeros-at m i = ⊎-elim (λ h. getD-replicate m i 0 0 h) (λ h. List·getD-eq-default (replicate m 0) 0 {n = i} (omega (arith, length-replicate {A = ℕ} m 0))) (lt-or-le i m)
+
 module _ (xs ys : List BlockReference) (a : ℕ) where
   pub longer : (found rs : List BlockReference) → length found ≤ length (gatherIn xs ys a found rs)
   unfolding gatherIn
@@ -48,73 +55,100 @@ module _ (xs ys : List BlockReference) (a : ℕ) where
       go true more = omega (arith, more (found ++ r ∷ []), length-append found (r ∷ []))
       go false more = more found
 
+  -- the rows found, as a tree in an area that is all zero behind them, and what is left of the list
   pub record Gathering (list : List ℕ) (words : ℕ) (area : List ℕ) (n k : ℕ) : Type 0 where
-    pub found : List BlockReference
-    pub count-is : n ≡ length found
+    pub few : n ≤ k
     pub fits : n * 6 ≤ words
-    pub area-is : area ≡ pad words (wordsOfAll found)
-    pub same : gatherIn xs ys a found (refsIn (drop (k * 6) list)) ≡ gatherIn xs ys a [] (refsIn list)
+    pub long : length area ≡ words
+    pub tree : Tree a area n
+    pub free : (j : ℕ) → n * 6 ≤ j → getD area j 0 ≡ 0
+    pub rest : gatherIn xs ys a (ownRows a area n) (refsIn (drop (k * 6) list)) ≡ gatherIn xs ys a [] (refsIn list)
 
   pub gather-start : (list : List ℕ) (words : ℕ) (area : List ℕ) → area ≡ replicate words 0 → Gathering list words area 0 0
-  unfolding pad
+  unfolding ownRows
   gather-start list words area e =
-      let z : words ≡ words - 0 = omega arith in
-      record { found = []; count-is = refl; fits = omega arith; area-is = e ∙ ap (λ (j : ℕ). replicate j 0) z; same = refl }
+      record {
+        few = omega arith;
+        fits = omega arith;
+        long = ap length e ∙ length-replicate words 0;
+        tree = record { reached = λ i h. absurd (omega arith); onward = λ i left h. absurd (omega arith) };
+        free = λ j _. ap (λ (l : List ℕ). getD l j 0) e ∙ zeros-at words j;
+        rest = refl;
+      }
 
   module _ (list : List ℕ) (words : ℕ) (area : List ℕ) (n k : ℕ) (g : Gathering list words area n k) where
-    used : length (wordsOfAll (g .found)) ≡ n * 6
-    used = omega (arith, length-words (g .found), g .count-is)
-
-    pub area-length : length area ≡ words
-    area-length = ap length (g .area-is) ∙ length-pad words (wordsOfAll (g .found)) (omega (arith, used, g .fits))
-
-    pub found-read : refsIn (take (n * 6) area) ≡ g .found
-    unfolding pad
-    found-read = ap (λ (l : List ℕ). refsIn (take (n * 6) l)) (g .area-is) ∙ ap refsIn (take-at (wordsOfAll (g .found)) (replicate (words - length (wordsOfAll (g .found))) 0) (n * 6) used) ∙ refs-words (g .found)
-
     module _ (h : k < length list / 6) (x : BlockReference) (ex : x ≡ refAt list (k * 6)) where
-      one-more : refsIn (drop (k * 6) list) ≡ x ∷ refsIn (drop ((k + 1) * 6) list)
-      one-more = refs-next list k h ∙ ap (λ (r : BlockReference). r ∷ refsIn (drop ((k + 1) * 6) list)) (sym ex)
-
-      pub gather-pass : wantedIn xs ys a (g .found) x ≡ false → Gathering list words area n (k + 1)
+      one-more : gatherIn xs ys a (ownRows a area n) (refsIn (drop (k * 6) list)) ≡ gatherIn xs ys a (cond (wantedIn xs ys a (ownRows a area n) x) (ownRows a area n ++ x ∷ []) (ownRows a area n)) (refsIn (drop ((k + 1) * 6) list))
       unfolding gatherIn
-      gather-pass e = record { found = g .found; count-is = g .count-is; fits = g .fits; area-is = g .area-is; same = sym (ap (gatherIn xs ys a (g .found)) one-more ∙ ap (λ (t : Bool). gatherIn xs ys a (cond t (g .found ++ x ∷ []) (g .found)) (refsIn (drop ((k + 1) * 6) list))) e) ∙ g .same }
+      one-more = ap (gatherIn xs ys a (ownRows a area n)) (refs-next list k h ∙ ap (λ (r : BlockReference). r ∷ refsIn (drop ((k + 1) * 6) list)) (sym ex))
 
-      module _ (e : wantedIn xs ys a (g .found) x ≡ true) where
-        taken : gatherIn xs ys a (g .found) (refsIn (drop (k * 6) list)) ≡ gatherIn xs ys a (g .found ++ x ∷ []) (refsIn (drop ((k + 1) * 6) list))
-        unfolding gatherIn
-        taken = ap (gatherIn xs ys a (g .found)) one-more ∙ ap (λ (t : Bool). gatherIn xs ys a (cond t (g .found ++ x ∷ []) (g .found)) (refsIn (drop ((k + 1) * 6) list))) e
+      pass : wantedIn xs ys a (ownRows a area n) x ≡ false → Gathering list words area n (k + 1)
+      pass e = record { few = omega (arith, g .few); fits = g .fits; long = g .long; tree = g .tree; free = g .free; rest = sym (one-more ∙ ap (λ (t : Bool). gatherIn xs ys a (cond t (ownRows a area n ++ x ∷ []) (ownRows a area n)) (refsIn (drop ((k + 1) * 6) list))) e) ∙ g .rest }
 
-        pub gather-put : n < words / 6 → (area' : List ℕ) → area' ≡ putAt area (n * 6) (wordsOf x) → Gathering list words area' (n + 1) (k + 1)
-        gather-put lt area' ea =
-            record {
-              found = g .found ++ x ∷ [];
-              count-is = omega (arith, g .count-is, length-append (g .found) (x ∷ []));
-              fits = omega arith;
-              area-is = ea
-                  ∙ put-at area (n * 6) x (omega (arith, area-length))
-                  ∙ ap (λ (l : List ℕ). sets l (n * 6) (wordsOfAll (x ∷ []))) (g .area-is)
-                  ∙ ap (λ (j : ℕ). sets (pad words (wordsOfAll (g .found))) j (wordsOfAll (x ∷ []))) (sym used)
-                  ∙ pad-more words (wordsOfAll (g .found)) (wordsOfAll (x ∷ [])) (omega (arith, used))
-                  ∙ ap (pad words) (sym (words-append (g .found) (x ∷ [])));
-              same = sym taken ∙ g .same;
-            }
+      pub gather-known : unknownIn xs ys a x ≡ false → Gathering list words area n (k + 1)
+      unfolding wantedIn
+      gather-known e = pass (rw e refl)
 
-        pub gather-over : words / 6 ≤ n → words / 6 < length (gatherIn xs ys a [] (refsIn list))
-        gather-over le = omega (arith, ap length (sym taken ∙ g .same), longer (g .found ++ x ∷ []) (refsIn (drop ((k + 1) * 6) list)), length-append (g .found) (x ∷ []), g .count-is)
+      module _ (e : unknownIn xs ys a x ≡ true) where
+        authority-is : x .authority .0 ≡ a
+        unfolding unknownIn
+        authority-is = eqb-true (x .authority .0) a (both-left (eqb (x .authority .0) a) (not (among xs x || among ys x)) e)
+
+        pub gather-ready : Tree (x .authority .0) area n
+        gather-ready = subst (λ (b : ℕ). Tree b area n) (sym authority-is) (g .tree)
+
+        pub gather-again : among (ownRows (x .authority .0) area n) x ≡ true → (area' : List ℕ) → area' ≡ area → Gathering list words area' n (k + 1)
+        unfolding wantedIn
+        gather-again f area' ea =
+            let f' : among (ownRows a area n) x ≡ true = ap (λ (b : ℕ). among (ownRows b area n) x) (sym authority-is) ∙ f in
+            subst (λ (l : List ℕ). Gathering list words l n (k + 1)) (sym ea) (pass (rw (e, f') refl))
+
+        module _ (hung-area : List ℕ) (hung : Hung area n x hung-area) where
+          taken : gatherIn xs ys a (ownRows a area n ++ x ∷ []) (refsIn (drop ((k + 1) * 6) list)) ≡ gatherIn xs ys a [] (refsIn list)
+          unfolding wantedIn
+          taken =
+              let f : among (ownRows a area n) x ≡ false = ap (λ (b : ℕ). among (ownRows b area n) x) (sym authority-is) ∙ hung .absent in
+              let w : wantedIn xs ys a (ownRows a area n) x ≡ true = rw (e, f) refl in
+              sym (one-more ∙ ap (λ (t : Bool). gatherIn xs ys a (cond t (ownRows a area n ++ x ∷ []) (ownRows a area n)) (refsIn (drop ((k + 1) * 6) list))) w) ∙ g .rest
+
+          pub gather-put : length hung-area ≡ words → n < words / 6 → (area' : List ℕ) (y : BlockReference) → y ≡ ownedOf 0 x → area' ≡ putAt hung-area (n * 6) (wordsOf y) → Gathering list words area' (n + 1) (k + 1)
+          gather-put long lt area' y ey ep =
+              let ea = ep ∙ ap (λ (r : BlockReference). putAt hung-area (n * 6) (wordsOf r)) ey in
+              let room : n * 6 + 6 ≤ length hung-area = omega (arith, long) in
+              record {
+                few = omega (arith, g .few);
+                fits = omega arith;
+                long = ap length ea ∙ length-put hung-area (n * 6) (ownedOf 0 x) ∙ long;
+                tree = tree-more a area n x hung-area (g .tree) (g .free) hung authority-is room area' ea;
+                free = free-more a area n x hung-area (g .tree) (g .free) hung authority-is room area' ea;
+                rest = ap (λ (l : List BlockReference). gatherIn xs ys a l (refsIn (drop ((k + 1) * 6) list))) (rows-more a area n x hung-area (g .tree) (g .free) hung authority-is room area' ea) ∙ taken;
+              }
+
+          pub gather-over : words / 6 ≤ n → words / 6 < length (gatherIn xs ys a [] (refsIn list))
+          gather-over le = omega (arith, ap length taken, longer (ownRows a area n ++ x ∷ []) (refsIn (drop ((k + 1) * 6) list)), length-append (ownRows a area n) (x ∷ []), length-own a area n)
 
     module _ (h : length list / 6 ≤ k) where
-      all : g .found ≡ gatherIn xs ys a [] (refsIn list)
+      all : ownRows a area n ≡ gatherIn xs ys a [] (refsIn list)
       unfolding gatherIn
-      all = sym (ap (gatherIn xs ys a (g .found)) (refs-end list k h)) ∙ g .same
+      all = sym (ap (gatherIn xs ys a (ownRows a area n)) (refs-end list k h)) ∙ g .rest
+
+      enough : leb (length (ownRows a area n)) (words / 6) ≡ true
+      enough = le-leb (length (ownRows a area n)) (words / 6) (omega (arith, length-own a area n, g .fits))
 
       pub gather-answer : reportedMissing (Found n) ≡ listed (gatherIn xs ys a [] (refsIn list)) words
       unfolding listed
-      gather-answer = rw (← all, le-leb (length (g .found)) (words / 6) (omega (arith, g .count-is, g .fits))) (ap (λ (j : ℕ). Gives (j ∷ [])) (g .count-is))
+      gather-answer = rw (← all, enough) (ap (λ (j : ℕ). Gives (j ∷ [])) (sym (length-own a area n)))
 
-      pub gather-area : area ≡ listArea (gatherIn xs ys a [] (refsIn list)) words
-      unfolding listArea
-      gather-area = rw (← all, le-leb (length (g .found)) (words / 6) (omega (arith, g .count-is, g .fits))) (g .area-is)
+      behind : drop (n * 6) area ≡ replicate (words - length (wordsOfAll (ownRows a area n))) 0
+      behind =
+          let size : length (wordsOfAll (ownRows a area n)) ≡ n * 6 = length-words (ownRows a area n) ∙ ap (λ (j : ℕ). j * 6) (length-own a area n) in
+          let left : length (drop (n * 6) area) ≡ words - length (wordsOfAll (ownRows a area n)) = omega (arith, length-drop (n * 6) area, g .long, size) in
+          ext-getD 0 (drop (n * 6) area) (replicate (words - length (wordsOfAll (ownRows a area n))) 0) (left ∙ sym (length-replicate (words - length (wordsOfAll (ownRows a area n))) 0))
+          (λ i _. getD-drop (n * 6) area i 0 ∙ g .free (n * 6 + i) (omega arith) ∙ sym (zeros-at (words - length (wordsOfAll (ownRows a area n))) i))
+
+      pub gather-area : (area' : List ℕ) → area' ≡ wordsOfAll (ownRows a area n) ++ drop (n * 6) area → area' ≡ listArea (gatherIn xs ys a [] (refsIn list)) words
+      unfolding listArea pad
+      gather-area area' e = rw (← all, enough) (e ∙ ap (λ (l : List ℕ). wordsOfAll (ownRows a area n) ++ l) behind)
 
 pub short-answer : (rs : List BlockReference) (words : ℕ) → words / 6 < length rs → reportedMissing (Refused ShortArea) ≡ listed rs words
 unfolding listed
@@ -127,8 +161,12 @@ short-area rs words h = rw (lt-leb (length rs) (words / 6) h) refl
 -- ---- the missing list of the state
 
 wanted-same : (st : State) (a : ℕ) (found : List BlockReference) (r : BlockReference) → wantedIn (refs (st .stored)) (refs (st .pending)) a found r ≡ wanted st a found r
-unfolding wantedIn wanted isKnown has
-wanted-same st a found r = refl
+unfolding wantedIn unknownIn wanted isKnown has
+wanted-same st a found r = go (eqb (r .authority .0) a) (not (isKnown st r)) (not (among found r))
+  where
+    go : (s t u : Bool) → ((s && t) && u) ≡ (s && (t && u))
+    go true t u = refl
+    go false t u = refl
 
 gather-same : (st : State) (a : ℕ) (found rs : List BlockReference) → gatherIn (refs (st .stored)) (refs (st .pending)) a found rs ≡ gather st a found rs
 unfolding gatherIn gather
@@ -173,6 +211,9 @@ module _ (size : ℕ) (t : Tables) (a words : ℕ) where
 
       pub part-fits : used * 6 ≤ length (t .named)
       part-fits = omega (arith, total-is, holds .pending-side .room, length-named-table (length (t .blocks) / 8) (length (t .includes)) (t .waiting) (t .named) (t .pending) (usedIn (t .waiting) (t .pending)) (decode t .pending) (holds .pending-side))
+
+      pub part-few : length (take (used * 6 - 0) (t .named)) / 6 < linkLimit
+      part-few = omega (arith, eu, used-bound (t .waiting) (t .pending), length-take-le (used * 6 - 0) (t .named) (omega (arith, part-fits)))
 
       all-named : refsIn (take (used * 6) (t .named)) ≡ named (decode t .pending)
       unfolding namedTable pad

@@ -1,21 +1,21 @@
 -- The missing list of one authority, into a lent area of rows of six words: document 01, "Offers" and "Numbers sent back"; block_manager.rs,
 -- missing_blocks. Assumes nothing: these are definitions.
+use Prim.Native.Nat.{ℕ, _/_, _%_}
+use lib.Dec.{eqb, ltb, leb}
+use lib.ListN.{length, replicate}
 use mathlib.Core.Bool.{Bool, cond, not, _&&_, _||_}
 use mathlib.Core.List.{List, [], _∷_, _++_}
-use Prim.Native.Nat.{ℕ, _/_, _%_}
-use lib.ListN.{length, replicate}
-use lib.Dec.{eqb, ltb, leb}
-use Rattle.types.specs.declared.reference.BlockReference.{BlockReference}
-use Rattle.types.specs.Limits.{referenceWords}
-use Rattle.types.specs.Reports.{Report, Gives, Refuses, numberOf}
-use Rattle.committee.specs.declared.Committee.{Committee}
-use Rattle.committee.specs.Committees.{soundOf}
-use Rattle.offers.specs.Blocks.{among}
-use Rattle.offers.specs.Missing.{missing}
-use Rattle.block_tables.specs.Words.{Tables, wordsOfAll, pad, decode}
 use Rattle.block_tables.specs.Sound.{soundTables}
+use Rattle.block_tables.specs.Words.{Tables, wordsOfAll, pad, decode}
+use Rattle.committee.specs.Committees.{soundOf}
+use Rattle.committee.specs.declared.Committee.{Committee}
 use Rattle.missing.specs.declared.Missing.{Missing}
 use Rattle.missing.specs.declared.Missing.the-variants.{Found, Refused}
+use Rattle.offers.specs.Blocks.{among}
+use Rattle.offers.specs.Missing.{missing}
+use Rattle.types.specs.Limits.{referenceWords}
+use Rattle.types.specs.Reports.{Report, Gives, Refuses, numberOf}
+use Rattle.types.specs.declared.reference.BlockReference.{BlockReference}
 
 -- the number of references found, or the number sent back
 abbrev pub reportedMissing : Missing → Report
@@ -52,8 +52,12 @@ areaBy size t a words = cond (soundTables size t && ltb a size) (listArea (missi
 
 -- ---- what the loop finds: `offers`' wanted and gather, on the references in the tables
 
+-- the reference is the authority's, and neither side has it
+unfoldable pub unknownIn : List BlockReference → List BlockReference → ℕ → BlockReference → Bool
+unknownIn xs ys a r = eqb (r .authority .0) a && not (among xs r || among ys r)
+
 unfoldable pub wantedIn : List BlockReference → List BlockReference → ℕ → List BlockReference → BlockReference → Bool
-wantedIn xs ys a found r = eqb (r .authority .0) a && (not (among xs r || among ys r) && not (among found r))
+wantedIn xs ys a found r = unknownIn xs ys a r && not (among found r)
 
 unfoldable pub gatherIn : List BlockReference → List BlockReference → ℕ → List BlockReference → List BlockReference → List BlockReference
 gatherIn xs ys a found [] = found

@@ -1,7 +1,11 @@
 // The missing list of one authority: block_manager.rs, missing_blocks. No public function has a `requires`.
+mod tree; // the search among the references found
+
+use crate::tree::enter;
+use crate::tree::owned;
+use crate::tree::restore;
 use block_store::sound::MAX_BLOCKS;
 use block_tables::indexed::row_in;
-use block_tables::parts::names;
 use block_tables::parts::put_reference;
 use block_tables::parts::reference_in;
 use block_tables::sound::larger;
@@ -16,14 +20,16 @@ use types::reference::REFERENCE_WORDS;
 use types::words::clear;
 ghost use mathlib.Core.Path.{_≡_};
 ghost use mathlib.Core.List.{[]};
-ghost use Prim.Native.Nat.{_≤_, max};
+ghost use Prim.Native.Nat.{_/_, _≤_, _<_, max};
 ghost use lib.ListN.{length};
+ghost use Rattle.types.specs.Limits.{referenceWords};
 ghost use Rattle.types.specs.References.{refsIn};
 ghost use Rattle.index.specs.Keys.{referenceKey};
 ghost use Rattle.index.specs.Search.{Indexed};
 ghost use Rattle.block_tables.specs.Words.{refRows, tablesOf};
 ghost use Rattle.block_tables.specs.Sound.{soundTables, soundBy};
-ghost use Rattle.missing.specs.Missing.{reportedMissing, wantedIn, gatherIn, listed, listArea, missingBy, areaBy, missingBlocks, missingArea};
+ghost use Rattle.missing.specs.Missing.{reportedMissing, unknownIn, gatherIn, listed, listArea, missingBy, areaBy, missingBlocks, missingArea};
+ghost use Rattle.missing.specs.Tree.{linkLimit};
 
 // How many references were found, or the refusal.
 pub enum Missing {
@@ -31,9 +37,8 @@ pub enum Missing {
     Refused(Refusal),
 }
 
-// Whether the reference is the authority's, no accepted block has it, and it is not found yet; `order` has the stored rows in order, and
-// `others` the pending ones.
-fn wanted(
+// Whether the reference is the authority's and no accepted block has it; `order` has the stored rows in order, and `others` the pending ones.
+fn unknown(
     blocks: &[u64],
     order: &[u16],
     stored: usize,
@@ -41,12 +46,11 @@ fn wanted(
     others: &[u16],
     pending: usize,
     authority: AuthorityIndex,
-    found: &[u64],
     x: BlockReference,
 ) -> bool
     requires { ⌜ Indexed (referenceKey (now blocks)) stored (now order) ⌝ }
     requires { ⌜ Indexed (referenceKey (now waiting)) pending (now others) ⌝ }
-    ensures { λ r. ⌜ r ≡ wantedIn (refRows (now (blocks .entry)) 0 stored) (refRows (now (waiting .entry)) 0 pending) (authority .0) (refsIn (now (found .entry))) x ⌝ }
+    ensures { λ r. ⌜ r ≡ unknownIn (refRows (now (blocks .entry)) 0 stored) (refRows (now (waiting .entry)) 0 pending) (authority .0) x ⌝ }
 {
     if x.authority.0 != authority.0 {
         return false;
@@ -57,7 +61,7 @@ fn wanted(
     if row_in(waiting, others, pending, pending, x) < pending {
         return false;
     }
-    !names(found, x)
+    true
 }
 
 // The wanted references of a list, each once, in the order in which they are first named.
@@ -74,6 +78,7 @@ fn gather(
 ) -> Missing
     requires { ⌜ Indexed (referenceKey (now blocks)) stored (now order) ⌝ }
     requires { ⌜ Indexed (referenceKey (now waiting)) pending (now others) ⌝ }
+    requires { ⌜ length (now list) / referenceWords < linkLimit ⌝ }
     ensures { λ r. ⌜ reportedMissing r ≡ listed (gatherIn (refRows (now (blocks .entry)) 0 stored) (refRows (now (waiting .entry)) 0 pending) (authority .0) [] (refsIn (now (list .entry)))) (length (now (area .entry))) ⌝ }
     ensures filled { λ _. ⌜ now (area .exit) ≡ listArea (gatherIn (refRows (now (blocks .entry)) 0 stored) (refRows (now (waiting .entry)) 0 pending) (authority .0) [] (refsIn (now (list .entry)))) (length (now (area .entry))) ⌝ }
 {
@@ -84,8 +89,7 @@ fn gather(
     while k < m {
         let x = reference_in(list, k);
         k += 1;
-        let used = n * REFERENCE_WORDS;
-        if wanted(
+        if !unknown(
             blocks,
             order,
             stored,
@@ -93,18 +97,21 @@ fn gather(
             others,
             pending,
             authority,
-            &area[0..used],
             x,
         ) {
-            if n < area.len() / REFERENCE_WORDS {
-                put_reference(area, used, x);
-                n += 1;
-            } else {
-                clear(area);
-                return Missing::Refused(Refusal::ShortArea);
-            }
+            continue;
         }
+        if enter(area, n, x) {
+            continue;
+        }
+        if area.len() / REFERENCE_WORDS <= n {
+            clear(area);
+            return Missing::Refused(Refusal::ShortArea);
+        }
+        put_reference(area, n * REFERENCE_WORDS, owned(AuthorityIndex(0), x));
+        n += 1;
     }
+    restore(area, n, authority);
     Missing::Found(n)
 }
 

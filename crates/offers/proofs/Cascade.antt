@@ -1,14 +1,14 @@
 -- The cascade: what it keeps, and that it leaves no waiting block which lacks nothing. Assumes nothing.
 --     settle-keeps   whatever each move of a block that lacks nothing keeps, the cascade keeps
 --     settled        if each waiting block that lacks nothing includes one of the open references, none is left
-use Prim.Native.Nat.{ℕ, zero, suc, _≤_, _<_}
+use Prim.Native.Nat.{ℕ, zero, suc, _+_, _≤_, _<_}
 use borrow.Author.Tests.{lt-ltb, le-ltb}
 use lib.ListN.{length, getD, take, drop, length-append, length-take, length-drop}
-use lib.Seq.{split-at}
+use lib.Seq.{split-at, take-append-seam, getD-append-seam, drop-at}
 use mathlib.Core.Bool.{Bool, true, false, _||_, false≢true}
-use mathlib.Core.List.{List, [], _∷_, _++_, List·Memᴰ, List·Memᴰ·tail, List·Memᴰ·cases-cons, List·Memᴰ·append-cases, Memᴰ·append-left, Memᴰ·append-right}
+use mathlib.Core.List.{List, [], _∷_, _++_, append-nil, append-assoc, List·Memᴰ, List·Memᴰ·head, List·Memᴰ·tail, List·Memᴰ·cases-cons, List·Memᴰ·append-cases, Memᴰ·append-left, Memᴰ·append-right}
 use mathlib.Core.Logic.{_⊎_, inl, inr}
-use mathlib.Core.Path.{_≡_, sym, subst}
+use mathlib.Core.Path.{_≡_, refl, sym, ap, _∙_, subst}
 use native.Mathlib.Nat.{le-of-suc-le-suc, not-suc-le-zero}
 use native.Mathlib.Omega.{arith}
 use Rattle.offers.proofs.Refs.{held-less}
@@ -52,6 +52,21 @@ firstFreed-earliest s r (b ∷ p) (suc j) h k = go (tested (freed s r b)) (λ m.
     go (inl e) below = absurd (not-suc-le-zero (rw e at h))
     go (inr e) below = below (le-of-suc-le-suc (rw e at h))
 
+-- blocks that are not freed are passed over
+firstFreed-past : (s : List Block) (r : BlockReference) (p q : List Block) → ((b : Block) → List·Memᴰ b p → freed s r b ≡ false) → firstFreed s r (p ++ q) ≡ length p + firstFreed s r q
+unfolding firstFreed
+firstFreed-past s r [] q none = omega arith
+firstFreed-past s r (b ∷ p) q none =
+    rw (none b (List·Memᴰ·head refl)) (omega (arith, firstFreed-past s r p q (λ c m. none c (List·Memᴰ·tail m))))
+
+pub firstFreed-at : (s : List Block) (r : BlockReference) (p q : List Block) (b : Block) → ((c : Block) → List·Memᴰ c p → freed s r c ≡ false) → freed s r b ≡ true
+    → firstFreed s r (p ++ b ∷ q) ≡ length p
+unfolding firstFreed
+firstFreed-at s r p q b none e = firstFreed-past s r p (b ∷ q) none ∙ rw e (omega arith)
+
+pub firstFreed-nowhere : (s : List Block) (r : BlockReference) (p : List Block) → ((b : Block) → List·Memᴰ b p → freed s r b ≡ false) → length p ≤ firstFreed s r p
+firstFreed-nowhere s r p none = omega (arith, firstFreed-past s r p [] none, ap (firstFreed s r) (append-nil p))
+
 -- ---- the two steps
 
 abbrev pub row : BlockReference → State → ℕ
@@ -80,6 +95,12 @@ without-mem p i {q} h m = subst (λ l. List·Memᴰ q l) (sym (split-at p i noBl
     go : List·Memᴰ q (take i p) ⊎ List·Memᴰ q (drop (suc i) p) → List·Memᴰ q (take i p ++ getD p i noBlock ∷ drop (suc i) p)
     go (inl k) = Memᴰ·append-left (getD p i noBlock ∷ drop (suc i) p) k
     go (inr k) = Memᴰ·append-right (take i p) (List·Memᴰ·tail k)
+
+-- the block at the seam goes in
+pub move-seam : (s p q : List Block) (b : Block) → move (length p) (record { stored = s; pending = p ++ b ∷ q }) ≡ record { stored = s ++ b ∷ []; pending = p ++ q }
+move-seam s p q b =
+    let rest : drop (suc (length p)) (p ++ b ∷ q) ≡ q = ap (drop (suc (length p))) (sym (append-assoc p (b ∷ []) q)) ∙ drop-at (p ++ b ∷ []) q (suc (length p)) (omega (arith, length-append p (b ∷ []))) in
+    rw (getD-append-seam, take-append-seam, rest) refl
 
 -- ---- what the cascade keeps
 

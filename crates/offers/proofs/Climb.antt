@@ -12,7 +12,7 @@ use native.Mathlib.Omega.{arith}
 use Rattle.offers.proofs.Cascade.{row, found, settle-in, settle-back, without-mem, firstFreed-freed, firstFreed-none}
 use Rattle.offers.proofs.Counts.{one, one-self, count-refs-cons, count-refs-snoc, count-without}
 use Rattle.offers.proofs.Kept.{Ordered, ordered-snoc, at-mem, Kept, kept-store}
-use Rattle.offers.proofs.Refs.{among-mem, mem-among, Holder, has-holder, holder-has, held-has, held-more, held-less}
+use Rattle.offers.proofs.Refs.{among-mem, mem-among, Holder, has-holder, holder-has, held-has, has-held, held-more, held-less}
 use Rattle.offers.proofs.Runs.{Good}
 use Rattle.offers.specs.Blocks.{Block, State, noBlock, among, refs, has, held, isKnown}
 use Rattle.offers.specs.Cascade.{freed, move, settle, steps, cascade}
@@ -123,6 +123,16 @@ reach-last s (x ∷ xs) h = go (lt-or-le (rowOf s x) (reach s xs)) (λ k. reach-
     go : (rowOf s x < reach s xs) ⊎ (reach s xs ≤ rowOf s x) → (0 < reach s xs → Last s xs) → Last s (x ∷ xs)
     go (inl lt) below = deeper lt (below (omega arith))
     go (inr le) below = record { ref = x; «in» = List·Memᴰ·head refl; is = omega arith }
+
+-- references that reach no further than the first blocks are held by them
+pub held-below : (s t : List Block) (xs : List BlockReference) → reach (s ++ t) xs ≤ length s → held s xs ≡ true
+held-below s t xs le = has-held s xs (λ r m. step r (reach-ge (s ++ t) xs m))
+  where
+    step : (r : BlockReference) → rowOf (s ++ t) r < reach (s ++ t) xs → has s r ≡ true
+    step r lt =
+        let inside : rowOf (s ++ t) r < length s = omega arith in
+        let is : getD s (rowOf (s ++ t) r) noBlock .ref ≡ r = ap (λ (b : Block). b .ref) (sym (List·getD-append s t noBlock (rowOf (s ++ t) r) inside)) ∙ rowOf-is (s ++ t) r (omega (arith, length-append s t)) in
+        holder-has (record { block = getD s (rowOf (s ++ t) r) noBlock; «in» = at-mem s (rowOf (s ++ t) r) inside; is = is })
 
 -- going back goes down
 pub back-held : (s : List Block) (t : ℕ) → Ordered s → 0 < t → t ≤ length s → held s (getD s (t - 1) noBlock .includes) ≡ true

@@ -1,12 +1,15 @@
--- Case L of document 01, its offers, and three more: a block twice, one refused, and the order of a cascade. Each is computed.
+-- Case L of document 01, its offers, and four more: a block twice, one refused, the order of a cascade, and the same as a plan. Each is computed.
 -- Assumes nothing.
 use Prim.Native.Nat.{ℕ}
+use mathlib.Core.Bool.{true, false}
 use mathlib.Core.List.{List, [], _∷_}
 use mathlib.Core.Path.{_≡_, refl}
 use Rattle.offers.specs.Blocks.{Block, State, empty, among, refs, has, held, included, isKnown, named}
 use Rattle.offers.specs.Cascade.{freed, firstFreed, settle, cascade}
+use Rattle.offers.specs.Climb.{rowOf, reach, climb}
 use Rattle.offers.specs.Missing.{wanted, gather, missing}
 use Rattle.offers.specs.Offers.{Limits, below, goodArgument, full, enter, wait, offer}
+use Rattle.offers.specs.Plan.{chosen, isIn, leftFrom, carried, reached, follows}
 use Rattle.offers.specs.declared.Offered.{Offered}
 use Rattle.offers.specs.declared.Offered.the-variants.{Refused, Known, Pending, Stored}
 use Rattle.types.specs.References.{same, sameDigest, reference}
@@ -67,3 +70,20 @@ fan-missing = refl
 fan-order : refs (after (after empty fan) (block (at 0 1) [] ∷ []) .stored) ≡ at 0 1 ∷ at 1 2 ∷ at 3 3 ∷ at 2 2 ∷ at 0 3 ∷ []
 unfolding after offer same sameDigest among refs has held freed firstFreed settle cascade below goodArgument included full isKnown enter
 fan-order = refl
+
+-- the same as a plan: the new row alone is stored, and the rows that wait go in as 1, 0, 3, 2
+abbrev waiting : State
+waiting = record { stored = block (at 0 1) [] ∷ []; pending = after empty fan .pending }
+
+fan-plan : climb 9 0 1 waiting ≡ carried (1 ∷ 0 ∷ 3 ∷ 2 ∷ []) waiting
+unfolding after offer same sameDigest among refs has held freed firstFreed settle cascade below goodArgument included full isKnown enter rowOf reach climb chosen isIn leftFrom
+fan-plan = refl
+
+fan-follows : follows (reached (1 ∷ 0 ∷ 3 ∷ 2 ∷ []) waiting) 1 (1 ∷ 0 ∷ 3 ∷ 2 ∷ []) 9 0 1 0 ≡ true
+unfolding after offer same sameDigest among refs has held freed firstFreed settle cascade below goodArgument included full isKnown enter chosen rowOf reach follows
+fan-follows = refl
+
+-- with c before b's follower d the order is wrong
+fan-wrong : follows (reached (1 ∷ 3 ∷ 0 ∷ 2 ∷ []) waiting) 1 (1 ∷ 3 ∷ 0 ∷ 2 ∷ []) 9 0 1 0 ≡ false
+unfolding after offer same sameDigest among refs has held freed firstFreed settle cascade below goodArgument included full isKnown enter chosen rowOf reach follows
+fan-wrong = refl

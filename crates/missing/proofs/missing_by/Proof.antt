@@ -6,7 +6,7 @@ use mathlib.Core.Path.{refl, sym, _∙_}
 use native.Mathlib.Omega.{arith}
 use Rattle.block_tables.proofs.Testing.{stored-index, pending-index}
 use Rattle.block_tables.specs.Words.{Tables, tablesOf}
-use Rattle.missing.proofs.Gathering.{by-tables, by-outside, part-fits, by-done}
+use Rattle.missing.proofs.Gathering.{by-tables, by-outside, part-fits, part-few, by-done}
 use Rattle.missing.proofs.missing_by.Statement.{statement}
 use Rattle.missing.proofs.missing_by.Tie as tie
 
@@ -83,7 +83,7 @@ gather-requires c κs =
     let a = c .before .before .before .before .before .before .before .before .before .before .before .before .before .before .before .before .before .before .before .before .before .before .before .before .before .before .args in
     let t : Tables = tablesOf (a .blocks .now) (a .includes .now) (a .stored) (a .waiting .now) (a .named .now) (a .pending) in
     let said = sym (c .before .before .before .before .before .before .before .before .before .before .before .before .before .before .tables-are-sound-by .ensures .0) ∙ not-false _ (c .before .before .before .before .before .before .before .if1 .left) in
-    (stored-index (a .size) t (length (a .order .now)) (length (a .others .now)) (length (a .work .now)) said (a .order .now) _ (c .before .before .before .before .before .before .before .before .before .before .before .before .before .before .tables-are-sound-by .ensures .1 .0), pending-index (a .size) t (length (a .order .now)) (length (a .others .now)) (length (a .work .now)) said (a .others .now) _ (c .before .before .before .before .before .before .before .before .before .before .before .before .before .before .tables-are-sound-by .ensures .1 .1 .0))
+    (stored-index (a .size) t (length (a .order .now)) (length (a .others .now)) (length (a .work .now)) said (a .order .now) _ (c .before .before .before .before .before .before .before .before .before .before .before .before .before .before .tables-are-sound-by .ensures .1 .0), (pending-index (a .size) t (length (a .order .now)) (length (a .others .now)) (length (a .work .now)) said (a .others .now) _ (c .before .before .before .before .before .before .before .before .before .before .before .before .before .before .tables-are-sound-by .ensures .1 .1 .0), part-few (a .size) t (a .authority .0) (length (a .area .now)) (sym (c .before .before .before .before .before .before .before .before .before .before .before .before .before .before .before .before .before .before .before .before .before .before .before .before .before .before .pre) ∙ said) _ (c .before .before .before .before .used-includes .ensures)))
 
 same-length-9 : tie.Need-same-length-9
 same-length-9 c = search needs

@@ -44,11 +44,11 @@ counts-in-requires c κs = search needs
 
 offer-sound-requires : tie.Need-offer-sound-requires
 offer-sound-requires c κs =
-    let a = c .before .before .before .before .before .before .before .before .before .before .before .before .before .before .before .before .before .before .before .before .before .before .before .before .before .before .before .before .before .before .before .before .args in
+    let a = c .before .before .before .before .before .before .before .before .before .before .before .before .before .before .before .before .before .before .before .before .before .before .before .before .before .before .before .before .before .before .before .before .before .args in
     let t : Tables = tablesOf (a .blocks .now) (a .includes .now) (a .stored) (a .waiting .now) (a .named .now) (a .pending) in
-    let said = sym (c .before .before .before .before .before .before .before .before .before .before .before .before .before .before .before .before .tables-are-sound-by .ensures .0) ∙ not-false _ (c .before .before .before .before .before .before .before .before .before .if1 .left) in
-    let sound = sym (c .before .before .before .before .before .before .before .before .before .before .before .before .before .before .before .before .before .before .before .before .before .before .before .before .before .before .before .before .before .before .before .before .pre .1) ∙ said in
-    (stored-now (a .size) t (a .x) (a .list .now) sound _ (c .before .before .before .before .before .before .counts-in .ensures) _ (stored-index (a .size) t (length (a .order .now)) (length (a .others .now)) (length (a .work .now)) said (a .order .now) _ (c .before .before .before .before .before .before .before .before .before .before .before .before .before .before .before .before .tables-are-sound-by .ensures .1 .0)), (pending-now (a .size) t (a .x) (a .list .now) sound _ (c .before .before .before .before .before .before .counts-in .ensures) _ (pending-index (a .size) t (length (a .order .now)) (length (a .others .now)) (length (a .work .now)) said (a .others .now) _ (c .before .before .before .before .before .before .before .before .before .before .before .before .before .before .before .before .tables-are-sound-by .ensures .1 .1 .0)), can-offer-now (a .size) t (a .x) (a .list .now) sound _ (c .before .before .before .before .before .before .counts-in .ensures) (c .before .before .before .before .before .before .before .before .before .before .before .before .before .before .before .before .before .before .before .before .before .before .before .before .before .before .before .before .before .before .before .before .pre .0)))
+    let said = sym (c .before .before .before .before .before .before .before .before .before .before .before .before .before .before .before .before .before .tables-are-sound-by .ensures .0) ∙ not-false _ (c .before .before .before .before .before .before .before .before .before .before .if1 .left) in
+    let sound = sym (c .before .before .before .before .before .before .before .before .before .before .before .before .before .before .before .before .before .before .before .before .before .before .before .before .before .before .before .before .before .before .before .before .before .pre .1) ∙ said in
+    (stored-now (a .size) t (a .x) (a .list .now) sound _ (c .before .before .before .before .before .before .before .counts-in .ensures) _ (stored-index (a .size) t (length (a .order .now)) (length (a .others .now)) (length (a .work .now)) said (a .order .now) _ (c .before .before .before .before .before .before .before .before .before .before .before .before .before .before .before .before .before .tables-are-sound-by .ensures .1 .0)), (pending-now (a .size) t (a .x) (a .list .now) sound _ (c .before .before .before .before .before .before .before .counts-in .ensures) _ (pending-index (a .size) t (length (a .order .now)) (length (a .others .now)) (length (a .work .now)) said (a .others .now) _ (c .before .before .before .before .before .before .before .before .before .before .before .before .before .before .before .before .before .tables-are-sound-by .ensures .1 .1 .0)), can-offer-now (a .size) t (a .x) (a .list .now) sound _ (c .before .before .before .before .before .before .before .counts-in .ensures) (c .before .before .before .before .before .before .before .before .before .before .before .before .before .before .before .before .before .before .before .before .before .before .before .before .before .before .before .before .before .before .before .before .before .pre .0)))
 
 same-length-8 : tie.Need-same-length-8
 same-length-8 c = search needs
@@ -73,11 +73,11 @@ same-length-14 c = search needs
 
 returns-2 : tie.Need-returns-2
 returns-2 c =
-    let a = c .before .before .before .before .before .before .before .before .before .before .before .before .before .before .before .before .before .before .before .before .before .before .before .before .before .before .before .before .before .before .before .before .before .before .before .before .before .before .before .before .before .args in
+    let a = c .before .before .before .before .before .before .before .before .before .before .before .before .before .before .before .before .before .before .before .before .before .before .before .before .before .before .before .before .before .before .before .before .before .before .before .before .before .before .before .before .before .before .before .before .args in
     let t : Tables = tablesOf (a .blocks .now) (a .includes .now) (a .stored) (a .waiting .now) (a .named .now) (a .pending) in
-    let said = sym (c .before .before .before .before .before .before .before .before .before .before .before .before .before .before .before .before .before .before .before .before .before .before .before .before .before .tables-are-sound-by .ensures .0) ∙ not-false _ (c .before .before .before .before .before .before .before .before .before .before .before .before .before .before .before .before .before .before .if1 .left) in
-    let sound = sym (c .before .before .before .before .before .before .before .before .before .before .before .before .before .before .before .before .before .before .before .before .before .before .before .before .before .before .before .before .before .before .before .before .before .before .before .before .before .before .before .before .before .pre .1) ∙ said in
-    by-done (a .size) t (a .x) (a .list .now) sound _ (c .before .before .before .before .before .before .before .before .before .before .before .before .before .before .before .counts-in .ensures) _ _ (c .before .before .before .before .before .before .before .before .offer-sound .ensures .0) (c .before .before .before .before .before .before .before .before .offer-sound .ensures .1)
+    let said = sym (c .before .before .before .before .before .before .before .before .before .before .before .before .before .before .before .before .before .before .before .before .before .before .before .before .before .before .before .before .tables-are-sound-by .ensures .0) ∙ not-false _ (c .before .before .before .before .before .before .before .before .before .before .before .before .before .before .before .before .before .before .before .before .before .if1 .left) in
+    let sound = sym (c .before .before .before .before .before .before .before .before .before .before .before .before .before .before .before .before .before .before .before .before .before .before .before .before .before .before .before .before .before .before .before .before .before .before .before .before .before .before .before .before .before .before .before .before .pre .1) ∙ said in
+    by-done (a .size) t (a .x) (a .list .now) sound _ (c .before .before .before .before .before .before .before .before .before .before .before .before .before .before .before .before .before .before .counts-in .ensures) _ _ (c .before .before .before .before .before .before .before .before .before .before .offer-sound .ensures .0) (c .before .before .before .before .before .before .before .before .before .before .offer-sound .ensures .1)
 
 pub offer-by-spec : {M : Type 1} → statement M
 offer-by-spec =
