@@ -7,8 +7,8 @@ use mathlib.Core.List.{List, _∷_}
 use mathlib.Core.Path.{_≡_, refl, sym, ap, ap₂, _∙_}
 use native.Mathlib.Omega.{arith}
 use Rattle.base_committer.proofs.Scans.{pop-is}
-use Rattle.base_committer.specs.Decide.{leaderBlocks, blamed, canSkipLeader, enoughLeaderSupport, isSkipped, tryDirectDecide, potentialCertificates, certifiedBy, certifiedFrom, decideLeaderFromAnchor, anchorFrom, anchorOf, tryIndirectDecide, isMarked, markedRows, directReport, indirectReport}
-use Rattle.base_committer.specs.Only.{some, anyOf, onlyOf, keepOnly, commitOr, popOr, reportedDecision}
+use Rattle.base_committer.specs.Decide.{leaderBlocks, blamed, canSkipLeader, enoughLeaderSupport, isSkipped, tryDirectDecide, potentialCertificates, certifiedBy, certifiedFrom, decideLeaderFromAnchor, anchorFrom, anchorOf, tryIndirectDecide, isMarked, markedRows, decideByMarks, directReport, indirectReport}
+use Rattle.base_committer.specs.Only.{some, anyOf, keepOnly, commitOr, popOr, reportedDecision}
 use Rattle.base_committer.specs.Waves.{waveNumber, decisionRound, votingRound, anchorRound}
 use Rattle.base_committer.specs.declared.indirect.Anchor.{Anchor}
 use Rattle.base_committer.specs.declared.indirect.Anchor.the-variants.{At, Nothing}
@@ -81,17 +81,16 @@ module _ (s : Store) (rows : ℕ → List ℕ) (stakes : List ℕ) (floor : ℕ)
   unfolding tryDirectDecide
   direct-skip t et e = rw (← et, e) refl
 
-  pub direct-found : (t : Bool) → t ≡ isSkipped s rows stakes floor o leader round → t ≡ false → (wave decision : ℕ) (found : Only) (d : Decision)
-      → wave ≡ waveNumber o round → decision ≡ decisionRound o wave
+  pub direct-found : (t : Bool) → t ≡ isSkipped s rows stakes floor o leader round → t ≡ false → (decision : ℕ) (found : Only) (d : Decision)
+      → decision ≡ decisionRound o (waveNumber o round)
       → found ≡ keepOnly (enoughLeaderSupport s rows stakes floor decision) (leaderBlocks (s .blocks) leader (rows round))
       → d ≡ commitOr (Undecided (at leader round)) (at leader round) found
       → reportedDecision d ≡ directReport s rows stakes floor o leader round
   unfolding tryDirectDecide keepOnly
-  direct-found t et e wave decision found d ew ed ef h =
+  direct-found t et e decision found d ed ef h =
       let xs = leaderBlocks (s .blocks) leader (rows round) in
-      let q : decision ≡ decisionRound o (waveNumber o round) = ed ∙ ap (decisionRound o) ew in
       let g : d ≡ popOr (Undecided (at leader round)) (at leader round) (keep (enoughLeaderSupport s rows stakes floor decision) xs) = h ∙ ap (commitOr (Undecided (at leader round)) (at leader round)) ef ∙ pop-is (Undecided (at leader round)) (at leader round) (keep (enoughLeaderSupport s rows stakes floor decision) xs) in
-      rw (← et, e, ← q) (ap reportedDecision g)
+      rw (← et, e, ← ed) (ap reportedDecision g)
 
 -- ---- the indirect rule
 
@@ -108,25 +107,44 @@ module _ (s : Store) (order : List ℕ) where
   abbrev inRound : ℕ → List ℕ
   inRound = rowsOfRound (s .blocks) order (s .count)
 
-  marked-row : (room anchor decision row : ℕ) → roundIs (s .blocks) decision row ≡ true
-      → isMarked (linkedMarks s room anchor decision) row ≡ linkedIn s room anchor row
-  unfolding isMarked roundIs fieldOf
-  marked-row room anchor decision row e =
-      let q : roundOf s row ≡ decision = eqb-true (roundOf s row) decision e in
-      marked-one s room anchor decision row (omega arith)
+  -- marks down to the decision round or further tell of its rows which the anchor is linked to
+  module _ (room anchor low decision : ℕ) (le : low ≤ decision) where
+    marked-row : (row : ℕ) → roundIs (s .blocks) decision row ≡ true → isMarked (linkedMarks s room anchor low) row ≡ linkedIn s room anchor row
+    unfolding isMarked roundIs fieldOf
+    marked-row row e =
+        let q : roundOf s row ≡ decision = eqb-true (roundOf s row) decision e in
+        marked-one s room anchor low row (omega arith)
 
-  -- the marked blocks of the decision round are those that the anchor is linked to
-  marked-are : (room anchor decision : ℕ) → markedRows (linkedMarks s room anchor decision) (inRound decision) ≡ potentialCertificates inRound (linkedIn s room) decision anchor
-  unfolding markedRows potentialCertificates rowsOfRound
-  marked-are room anchor decision =
-      same-from (s .blocks) order decision (isMarked (linkedMarks s room anchor decision)) (linkedIn s room anchor) (marked-row room anchor decision)
-      (roundEntry (s .blocks) order (s .count) decision) (s .count - roundEntry (s .blocks) order (s .count) decision)
+    -- the marked blocks of the decision round are those that the anchor is linked to
+    marked-are : markedRows (linkedMarks s room anchor low) (inRound decision) ≡ potentialCertificates inRound (linkedIn s room) decision anchor
+    unfolding markedRows potentialCertificates rowsOfRound
+    marked-are =
+        same-from (s .blocks) order decision (isMarked (linkedMarks s room anchor low)) (linkedIn s room anchor) marked-row
+        (roundEntry (s .blocks) order (s .count) decision) (s .count - roundEntry (s .blocks) order (s .count) decision)
 
-  pub certified-is : (room anchor decision : ℕ) (marks stakes : List ℕ) (floor : ℕ) → marks ≡ linkedMarks s room anchor decision
-      → certifiedBy s stakes floor (markedRows marks (inRound decision)) ≡ certifiedFrom s inRound (linkedIn s room) stakes floor decision anchor
-  unfolding certifiedFrom
-  certified-is room anchor decision marks stakes floor e =
-      ap (λ (w : List ℕ). certifiedBy s stakes floor (markedRows w (inRound decision))) e ∙ ap (certifiedBy s stakes floor) (marked-are room anchor decision)
+    certified-is : (marks stakes : List ℕ) (floor : ℕ) → marks ≡ linkedMarks s room anchor low
+        → certifiedBy s stakes floor (markedRows marks (inRound decision)) ≡ certifiedFrom s inRound (linkedIn s room) stakes floor decision anchor
+    unfolding certifiedFrom
+    certified-is marks stakes floor e =
+        ap (λ (w : List ℕ). certifiedBy s stakes floor (markedRows w (inRound decision))) e ∙ ap (certifiedBy s stakes floor) marked-are
+
+  -- the decision by these marks is the one in the past of the anchor
+  by-marks : (room anchor low : ℕ) (marks stakes : List ℕ) (floor : ℕ) (o : BaseCommitterOptions) (leader round : ℕ) → low ≤ decisionRound o (waveNumber o round)
+      → marks ≡ linkedMarks s room anchor low
+      → decideByMarks s inRound marks stakes floor o leader round ≡ decideLeaderFromAnchor s inRound (linkedIn s room) stakes floor o anchor leader round
+  unfolding decideByMarks decideLeaderFromAnchor
+  by-marks room anchor low marks stakes floor o leader round le e =
+      ap (λ (p : ℕ → Bool). popOr (Skip (at leader round)) (at leader round) (keep p (leaderBlocks (s .blocks) leader (inRound round))))
+      (certified-is room anchor low (decisionRound o (waveNumber o round)) le marks stakes floor e)
+
+pub marks-found : (s : Store) (rows : ℕ → List ℕ) (marks stakes : List ℕ) (floor : ℕ) (o : BaseCommitterOptions) (leader round decision : ℕ) (found : Only) (d : Decision)
+    → decision ≡ decisionRound o (waveNumber o round)
+    → found ≡ keepOnly (certifiedBy s stakes floor (markedRows marks (rows decision))) (leaderBlocks (s .blocks) leader (rows round))
+    → d ≡ commitOr (Skip (at leader round)) (at leader round) found → d ≡ decideByMarks s rows marks stakes floor o leader round
+unfolding decideByMarks keepOnly
+marks-found s rows marks stakes floor o leader round decision found d ed ef h =
+    let p = certifiedBy s stakes floor (markedRows marks (rows decision)) in
+    rw (← ed) (h ∙ ap (commitOr (Skip (at leader round)) (at leader round)) ef ∙ pop-is (Skip (at leader round)) (at leader round) (keep p (leaderBlocks (s .blocks) leader (rows round))))
 
 -- the search for the anchor: what is found from i on is what is found in all
 abbrev pub AnchorFrom : ℕ → List ℕ → ℕ → Type 0
@@ -163,20 +181,14 @@ module _ (least : ℕ) (l : List ℕ) (i : ℕ) (inv : AnchorFrom least l i) whe
 
 -- no anchor, or by the blocks certified in its past
 module _ (s : Store) (order : List ℕ) (room : ℕ) (stakes : List ℕ) (floor : ℕ) (o : BaseCommitterOptions) (leader round : ℕ) (xs : List LeaderStatus)
-    (least : ℕ) (el : least ≡ anchorRound o round) (a : Anchor) (ea : a ≡ anchorOf least xs) where
+    (a : Anchor) (ea : a ≡ anchorOf (anchorRound o round) xs) where
   pub indirect-none : a ≡ Nothing → reportedDecision (Decided (Undecided (at leader round))) ≡ indirectReport s (inRound s order) (linkedIn s room) stakes floor o leader round xs
   unfolding tryIndirectDecide
-  indirect-none e = rw (← el, ← ea, e) refl
+  indirect-none e = rw (← ea, e) refl
 
-  pub indirect-found : (anchor : ℕ) → a ≡ At anchor → (wave decision : ℕ) (marks : List ℕ) (found : Only) (d : Decision) → wave ≡ waveNumber o round → decision ≡ decisionRound o wave
-      → marks ≡ linkedMarks s room anchor decision
-      → found ≡ keepOnly (certifiedBy s stakes floor (markedRows marks (inRound s order decision))) (leaderBlocks (s .blocks) leader (inRound s order round))
-      → d ≡ commitOr (Skip (at leader round)) (at leader round) found
+  pub indirect-found : (anchor low : ℕ) (marks : List ℕ) (d : Decision) → a ≡ At anchor → low ≤ decisionRound o (waveNumber o round) → marks ≡ linkedMarks s room anchor low
+      → d ≡ decideByMarks s (inRound s order) marks stakes floor o leader round
       → reportedDecision d ≡ indirectReport s (inRound s order) (linkedIn s room) stakes floor o leader round xs
-  unfolding tryIndirectDecide decideLeaderFromAnchor keepOnly
-  indirect-found anchor e wave decision marks found d ew ed em ef h =
-      let ls = leaderBlocks (s .blocks) leader (inRound s order round) in
-      let q : decision ≡ decisionRound o (waveNumber o round) = ed ∙ ap (decisionRound o) ew in
-      let f = ef ∙ ap (λ (p : ℕ → Bool). onlyOf (keep p ls)) (certified-is s order room anchor decision marks stakes floor em) in
-      let g : d ≡ popOr (Skip (at leader round)) (at leader round) (keep (certifiedFrom s (inRound s order) (linkedIn s room) stakes floor decision anchor) ls) = h ∙ ap (commitOr (Skip (at leader round)) (at leader round)) f ∙ pop-is (Skip (at leader round)) (at leader round) (keep (certifiedFrom s (inRound s order) (linkedIn s room) stakes floor decision anchor) ls) in
-      rw (← el, ← ea, e, ← q) (ap reportedDecision g)
+  unfolding tryIndirectDecide
+  indirect-found anchor low marks d e le em ed =
+      rw (← ea, e) (ap reportedDecision (ed ∙ by-marks s order room anchor low marks stakes floor o leader round le em))

@@ -1,16 +1,10 @@
 -- The direct and the indirect decision of a leader: base_committer.rs, decide_leader_from_anchor to try_direct_decide. Assumes nothing: these
 -- are definitions.
 use Prim.Native.Nat.{ℕ}
-use mathlib.Core.Bool.{Bool, cond, not, _&&_, _||_}
-use mathlib.Core.List.{List, [], _∷_}
 use lib.Dec.{leb, eqb}
 use lib.ListN.{getD}
-use Rattle.types.specs.Reports.{Report}
-use Rattle.block_store.specs.Store.{Store, fieldOf}
-use Rattle.consensus.specs.Statuses.{at, positionOf}
-use Rattle.consensus.specs.declared.status.LeaderStatus.{LeaderStatus}
-use Rattle.consensus.specs.declared.status.LeaderStatus.the-variants.{Commit, Skip, Undecided}
-use Rattle.support.specs.Quorums.{keep, isCertificate, quorumIn, everyRow, noVote}
+use mathlib.Core.Bool.{Bool, cond, not, _&&_, _||_}
+use mathlib.Core.List.{List, [], _∷_}
 use Rattle.base_committer.specs.Only.{some, anyOf, popOr, reportedDecision}
 use Rattle.base_committer.specs.Waves.{waveNumber, decisionRound, votingRound, anchorRound}
 use Rattle.base_committer.specs.declared.indirect.Anchor.{Anchor}
@@ -18,6 +12,12 @@ use Rattle.base_committer.specs.declared.indirect.Anchor.the-variants.{A
 use Rattle.base_committer.specs.declared.only.Decision.{Decision}
 use Rattle.base_committer.specs.declared.only.Decision.the-variants.{Decided}
 use Rattle.base_committer.specs.declared.options.BaseCommitterOptions.{BaseCommitterOptions}
+use Rattle.block_store.specs.Store.{Store, fieldOf}
+use Rattle.consensus.specs.Statuses.{at, positionOf}
+use Rattle.consensus.specs.declared.status.LeaderStatus.{LeaderStatus}
+use Rattle.consensus.specs.declared.status.LeaderStatus.the-variants.{Commit, Skip, Undecided}
+use Rattle.support.specs.Quorums.{keep, isCertificate, quorumIn, everyRow, noVote}
+use Rattle.types.specs.Reports.{Report}
 
 -- the block in the row is by that authority
 unfoldable pub isBy : List ℕ → ℕ → ℕ → Bool
@@ -102,6 +102,12 @@ isMarked marks row = eqb (getD marks row 0) 1
 -- those of the rows that are marked in a work area
 unfoldable pub markedRows : List ℕ → List ℕ → List ℕ
 markedRows marks rows = keep (isMarked marks) rows
+
+-- what is certified by a marked block of the decision round is committed, and where nothing is the leader is skipped
+unfoldable pub decideByMarks : Store → (ℕ → List ℕ) → List ℕ → List ℕ → ℕ → BaseCommitterOptions → ℕ → ℕ → Decision
+decideByMarks s rows marks stakes floor o leader round =
+    popOr (Skip (at leader round)) (at leader round)
+    (keep (certifiedBy s stakes floor (markedRows marks (rows (decisionRound o (waveNumber o round))))) (leaderBlocks (s .blocks) leader (rows round)))
 
 -- ---- as they are reported
 

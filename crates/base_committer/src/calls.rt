@@ -218,43 +218,6 @@ fn decide_by_index(
     }
 }
 
-// The same for at most 256 stored rows.
-fn decide_256(
-    rule: Rule,
-    committee: Committee,
-    options: BaseCommitterOptions,
-    blocks: &[u64],
-    includes: &[u64],
-    stored: usize,
-    leader: AuthorityIndex,
-    round: RoundNumber,
-    statuses: &[u64],
-    work: &mut [u8],
-) -> Decision
-    requires { ⌜ Admitted committee options ⌝ }
-    requires { ⌜ stored ≤ 256 ⌝ }
-    requires { ⌜ now work ≡ replicate (length (now work)) 0 ⌝ }
-    ensures { λ r. ⌜ reportedDecision r ≡ answerBy rule committee options (storeOf (now (blocks .entry)) (now (includes .entry)) stored) (leader .0) (round .0) (now (statuses .entry)) (length (now (work .entry))) ⌝ }
-    ensures zeroed { λ _. ⌜ now (work .exit) ≡ replicate (length (now (work .entry))) 0 ⌝ }
-{
-    let mut order = [0u16; 256];
-    let mut places = [0u16; 256];
-    decide_by_index(
-        rule,
-        committee,
-        options,
-        blocks,
-        includes,
-        stored,
-        leader,
-        round,
-        statuses,
-        work,
-        &mut order,
-        &mut places,
-    )
-}
-
 // The same for at most 4,096 stored rows.
 fn decide_4096(
     rule: Rule,
@@ -351,20 +314,6 @@ fn decide(
     }
     if !options.are_sound() {
         return Decision::Refused(Refusal::BadOptions);
-    }
-    if stored <= 256 {
-        return decide_256(
-            rule,
-            committee,
-            options,
-            blocks,
-            includes,
-            stored,
-            leader,
-            round,
-            statuses,
-            work,
-        );
     }
     if stored <= 4096 {
         return decide_4096(

@@ -9,6 +9,7 @@ pub mod parts; // the same without the tests
 mod waves; // waves of rounds, and who leads one
 
 pub use calls::Election;
+pub use indirect::Anchor;
 pub use only::Decision;
 pub use options::BaseCommitterOptions;
 pub use waves::Elected;

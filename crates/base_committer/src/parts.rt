@@ -1,11 +1,11 @@
 // The election and the two decisions without the tests of the calls, for a committer that has tested its tables once. Each function is a
 // part: it tests nothing, stakes are lent words, the floor is the quorum's, and `order` has the stored rows in order.
+use crate::Anchor;
 use crate::BaseCommitterOptions;
 use crate::Decision;
 use crate::Elected;
 use crate::direct::only_supported;
 use crate::direct::skipped;
-use crate::indirect::Anchor;
 use crate::indirect::find_anchor;
 use crate::indirect::only_certified;
 use crate::only::commit_or;
@@ -27,9 +27,9 @@ ghost use Rattle.index.specs.Rounds.{rowsOfRound};
 ghost use Rattle.block_store.specs.Store.{storeOf};
 ghost use Rattle.consensus.specs.Statuses.{statusesOf};
 ghost use Rattle.linked.specs.Linked.{linkedIn};
-ghost use Rattle.base_committer.specs.Waves.{reportedElected, electedReport};
+ghost use Rattle.base_committer.specs.Waves.{waveNumber, decisionRound, anchorRound, reportedElected, electedReport};
 ghost use Rattle.base_committer.specs.Only.{reportedDecision};
-ghost use Rattle.base_committer.specs.Decide.{directReport, indirectReport};
+ghost use Rattle.base_committer.specs.Decide.{anchorOf, decideByMarks, directReport, indirectReport};
 
 // The leader of a round in a committee of that size: nobody, where the round isn't its wave's first.
 pub fn elected(options: BaseCommitterOptions, size: u64, round: RoundNumber) -> Elected
@@ -78,7 +78,7 @@ pub fn direct_decision(
     ) {
         return Decision::Decided(LeaderStatus::Skip(position));
     }
-    let decision = decision_round(options, wave_number(options, round));
+    let decision = deciding_round(options, round);
     let found = only_supported(
         blocks,
         includes,
@@ -93,8 +93,56 @@ pub fn direct_decision(
     commit_or(found, position, LeaderStatus::Undecided(position))
 }
 
+// The block in whose past a leader of that round is decided, by the statuses of later leaders.
+pub fn anchor_of(options: BaseCommitterOptions, round: RoundNumber, statuses: &[u64]) -> Anchor
+    ensures { λ r. ⌜ r ≡ anchorOf (anchorRound options (round .0)) (statusesOf (now (statuses .entry))) ⌝ }
+{
+    find_anchor(statuses, anchor_round(options, round))
+}
+
+// The round whose blocks can certify a leader block of that round.
+pub fn deciding_round(options: BaseCommitterOptions, round: RoundNumber) -> RoundNumber
+    ensures { λ r. ⌜ r .0 ≡ decisionRound options (waveNumber options (round .0)) ⌝ }
+{
+    decision_round(options, wave_number(options, round))
+}
+
+// The indirect rule with the anchor's past marked: commit what a marked block of the decision round certifies, skip what none does.
+pub fn decision_by_marks(
+    blocks: &[u64],
+    includes: &[u64],
+    stored: usize,
+    order: &[u16],
+    stakes: &[u64],
+    floor: Stake,
+    options: BaseCommitterOptions,
+    leader: AuthorityIndex,
+    round: RoundNumber,
+    marks: &[u8],
+) -> Decision
+    ensures { λ r. ⌜ r ≡ decideByMarks (storeOf (now (blocks .entry)) (now (includes .entry)) stored) (rowsOfRound (now (blocks .entry)) (now (order .entry)) stored) (now (marks .entry)) (now (stakes .entry)) (floor .0) options (leader .0) (round .0) ⌝ }
+{
+    let position = AuthorRound {
+        authority: leader,
+        round: round,
+    };
+    let certified = only_certified(
+        blocks,
+        includes,
+        stored,
+        order,
+        stakes,
+        floor,
+        deciding_round(options, round),
+        leader,
+        round,
+        marks,
+    );
+    commit_or(certified, position, LeaderStatus::Skip(position))
+}
+
 // The indirect rule, over the statuses of later leaders: commit what is certified in the past of the anchor, skip what isn't.
-pub fn indirect_decision(
+pub(crate) fn indirect_decision(
     blocks: &[u64],
     includes: &[u64],
     stored: usize,
@@ -110,29 +158,34 @@ pub fn indirect_decision(
     ensures { λ r. ⌜ reportedDecision r ≡ indirectReport (storeOf (now (blocks .entry)) (now (includes .entry)) stored) (rowsOfRound (now (blocks .entry)) (now (order .entry)) stored) (linkedIn (storeOf (now (blocks .entry)) (now (includes .entry)) stored) (length (now (work .entry)))) (now (stakes .entry)) (floor .0) options (leader .0) (round .0) (statusesOf (now (statuses .entry))) ⌝ }
     ensures zeroed { λ _. ⌜ now (work .exit) ≡ replicate (length (now (work .entry))) 0 ⌝ }
 {
-    let position = AuthorRound {
-        authority: leader,
-        round: round,
-    };
-    let found = find_anchor(statuses, anchor_round(options, round));
+    let found = anchor_of(options, round, statuses);
     let Anchor::At(anchor) = found else {
         clear_bytes(work);
-        return Decision::Decided(LeaderStatus::Undecided(position));
+        return Decision::Decided(LeaderStatus::Undecided(AuthorRound {
+            authority: leader,
+            round: round,
+        }));
     };
-    let decision = decision_round(options, wave_number(options, round));
-    mark_linked(blocks, includes, stored, anchor, decision, work);
-    let certified = only_certified(
+    mark_linked(
+        blocks,
+        includes,
+        stored,
+        anchor,
+        deciding_round(options, round),
+        work,
+    );
+    let decided = decision_by_marks(
         blocks,
         includes,
         stored,
         order,
         stakes,
         floor,
-        decision,
+        options,
         leader,
         round,
         &work[..],
     );
     clear_bytes(work);
-    commit_or(certified, position, LeaderStatus::Skip(position))
+    decided
 }

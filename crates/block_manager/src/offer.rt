@@ -184,42 +184,7 @@ fn offer_by(
     )
 }
 
-// The same for at most 256 rows on a side.
-fn offer_256(
-    size: u64,
-    blocks: &mut [u64],
-    includes: &mut [u64],
-    stored: usize,
-    waiting: &mut [u64],
-    named: &mut [u64],
-    pending: usize,
-    x: BlockReference,
-    list: &[u64],
-) -> OfferAnswer
-    requires { ⌜ (length (now list) % referenceWords ≡ 0) × (max stored pending ≤ 256) ⌝ }
-    ensures { λ r. ⌜ r .answer ≡ answerBy size (tablesOf (now (blocks .entry)) (now (includes .entry)) stored (now (waiting .entry)) (now (named .entry)) pending) x (now (list .entry)) ⌝ }
-    ensures after { λ r. ⌜ tablesOf (now (blocks .exit)) (now (includes .exit)) (r .stored) (now (waiting .exit)) (now (named .exit)) (r .pending) ≡ tablesBy size (tablesOf (now (blocks .entry)) (now (includes .entry)) stored (now (waiting .entry)) (now (named .entry)) pending) x (now (list .entry)) ⌝ }
-{
-    let mut order = [0u16; 256];
-    let mut others = [0u16; 256];
-    let mut work = [0u16; 256];
-    offer_by(
-        size,
-        blocks,
-        includes,
-        stored,
-        waiting,
-        named,
-        pending,
-        &mut order,
-        &mut others,
-        &mut work,
-        x,
-        list,
-    )
-}
-
-// The same for at most 4,096.
+// The same for at most 4,096 rows on a side.
 fn offer_4096(
     size: u64,
     blocks: &mut [u64],
@@ -306,19 +271,6 @@ fn offer_sized(
     ensures after { λ r. ⌜ tablesOf (now (blocks .exit)) (now (includes .exit)) (r .stored) (now (waiting .exit)) (now (named .exit)) (r .pending) ≡ tablesBy size (tablesOf (now (blocks .entry)) (now (includes .entry)) stored (now (waiting .entry)) (now (named .entry)) pending) x (now (list .entry)) ⌝ }
 {
     let rows = larger(stored, pending);
-    if rows <= 256 {
-        return offer_256(
-            size,
-            blocks,
-            includes,
-            stored,
-            waiting,
-            named,
-            pending,
-            x,
-            list,
-        );
-    }
     if rows <= 4096 {
         return offer_4096(
             size,

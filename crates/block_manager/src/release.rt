@@ -1,11 +1,11 @@
 // What a new row lets in: one by one where little waits, and else by a plan, found before anything moves and carried out at once.
 use crate::carry::carry_out;
 use crate::cascade::cascade;
-use crate::making::make_plan;
 use block_store::parts::reference_of;
 use block_store::sound::MAX_BLOCKS;
 use block_tables::Counts;
 use block_tables::indexed::first_freed;
+use plan::making::make_plan;
 ghost use mathlib.Core.Path.{_≡_};
 ghost use Prim.Native.Nat.{_+_, _*_, _-_, _/_};
 ghost use lib.ListN.{length};

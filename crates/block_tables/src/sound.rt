@@ -288,37 +288,7 @@ pub fn tables_are_sound_by(
     )
 }
 
-// Whether the tables of both sides are sound, for at most 256 rows on a side.
-fn tables_256(
-    size: u64,
-    blocks: &[u64],
-    includes: &[u64],
-    stored: usize,
-    waiting: &[u64],
-    named: &[u64],
-    pending: usize,
-) -> bool
-    requires { ⌜ max stored pending ≤ 256 ⌝ }
-    ensures { λ r. ⌜ r ≡ soundTables size (tablesOf (now (blocks .entry)) (now (includes .entry)) stored (now (waiting .entry)) (now (named .entry)) pending) ⌝ }
-{
-    let mut order = [0u16; 256];
-    let mut others = [0u16; 256];
-    let mut work = [0u16; 256];
-    tables_are_sound_by(
-        size,
-        blocks,
-        includes,
-        stored,
-        waiting,
-        named,
-        pending,
-        &mut order,
-        &mut others,
-        &mut work,
-    )
-}
-
-// The same for at most 4,096.
+// Whether the tables of both sides are sound, for at most 4,096 rows on a side.
 fn tables_4096(
     size: u64,
     blocks: &[u64],
@@ -397,9 +367,6 @@ pub fn tables_are_sound(
     ensures { λ r. ⌜ r ≡ soundTables size (tablesOf (now (blocks .entry)) (now (includes .entry)) stored (now (waiting .entry)) (now (named .entry)) pending) ⌝ }
 {
     let rows = larger(stored, pending);
-    if rows <= 256 {
-        return tables_256(size, blocks, includes, stored, waiting, named, pending);
-    }
     if rows <= 4096 {
         return tables_4096(size, blocks, includes, stored, waiting, named, pending);
     }

@@ -65,7 +65,8 @@ first-le x y xs ys e =
     two≠zero q = omega arith
 
 module _ (blocks order : List ℕ) (n : ℕ) (ix : Indexed (referenceKey blocks) n order) where
-  rounds-rise : (j k : ℕ) → j ≤ k → k < n → getD blocks (getD order j 0 * blockWords + 1) 0 ≤ getD blocks (getD order k 0 * blockWords + 1) 0
+  -- no row is of a higher round than one further on
+  pub rounds-rise : (j k : ℕ) → j ≤ k → k < n → getD blocks (getD order j 0 * blockWords + 1) 0 ≤ getD blocks (getD order k 0 * blockWords + 1) 0
   unfolding keyAt
   rounds-rise j k h l =
       ⊎-elim
@@ -111,13 +112,13 @@ module _ (blocks order : List ℕ) (n round : ℕ) (ix : Indexed (referenceKey b
   abbrev first : ℕ
   first = roundEntry blocks order n round
 
-  lower : (j : ℕ) → j < first → j < n → roundAt (at j) < round
+  pub lower : (j : ℕ) → j < first → j < n → roundAt (at j) < round
   unfolding roundEntry keyAt
   lower j h l =
       let s = searched key n (ix .distinct) order (ix .rows) (round ∷ []) in
       ltb-true (roundAt (at j)) round (first-before (roundAt (at j)) round _ ∙ eq-eqb _ 0 (s .low j h))
 
-  higher : (j : ℕ) → first ≤ j → j < n → round ≤ roundAt (at j)
+  pub higher : (j : ℕ) → first ≤ j → j < n → round ≤ roundAt (at j)
   unfolding roundEntry keyAt
   higher j h l =
       let s = searched key n (ix .distinct) order (ix .rows) (round ∷ []) in

@@ -6,9 +6,13 @@ use mathlib.Core.List.{List, [], _∷_}
 use mathlib.Core.Path.{_≡_, refl}
 use Rattle.block_store.specs.Sound.{soundSizes, soundRow, differ, newRow, distinctRows, zeros, soundRows, soundStore}
 use Rattle.block_store.specs.Store.{Store, storeOf, fieldOf, includesOf}
+use Rattle.index.specs.Keys.{wordsFrom, keyAt}
+use Rattle.index.specs.Rounds.{roundEntry}
+use Rattle.index.specs.Search.{searchIn}
 use Rattle.linked.specs.Linked.{ofRound, parentOf, lower, parentsAt, linked, linkedIn, linkedDown, flagsBelow, linkedMarks, linkedAnswer}
+use Rattle.linked.specs.Lowering.{markBelow, markEntries, lowerMarks}
 use Rattle.types.specs.Below.{allBelow, anyBelow}
-use Rattle.types.specs.References.{sameDigest, same, refAt}
+use Rattle.types.specs.References.{sameDigest, same, refAt, orderOf}
 use Rattle.types.specs.Reports.{Refuses, says}
 
 -- a stored row: authority, round, a digest of one word, first include, include count
@@ -30,6 +34,10 @@ dag =
     (row 0 0 0 0 0 [])))))))))
     (0 ∷ 1 ∷ 1 ∷ 0 ∷ 2 ∷ 0 ∷ 5 ∷ 3 ∷ 0 ∷ [])
     8
+
+-- its stored rows in order
+abbrev inOrder : List ℕ
+inOrder = 0 ∷ 1 ∷ 2 ∷ 3 ∷ 4 ∷ 5 ∷ 6 ∷ 7 ∷ []
 
 -- 5 reaches 0 through the twin 2, and not 1, which only the other twin includes; 4 includes both
 below : (linked dag 5 0 ≡ true) × (linked dag 5 1 ≡ false) × (linked dag 5 2 ≡ true) × (linked dag 5 3 ≡ false) × (linked dag 4 0 ≡ true) × (linked dag 4 1 ≡ true)
@@ -55,6 +63,11 @@ part = (refl, refl, refl, refl)
 marks : (linkedMarks dag 9 5 0 ≡ 1 ∷ 0 ∷ 1 ∷ 0 ∷ 0 ∷ 1 ∷ 0 ∷ 0 ∷ 0 ∷ []) × (linkedMarks dag 8 5 1 ≡ 0 ∷ 0 ∷ 1 ∷ 0 ∷ 0 ∷ 1 ∷ 0 ∷ 0 ∷ []) × (linkedMarks dag 8 5 3 ≡ replicate 8 0) × (linkedMarks dag 9 8 0 ≡ replicate 9 0) × (linkedMarks dag 7 5 0 ≡ replicate 7 0)
 unfolding linkedMarks flagsBelow linkedDown linkedIn linked parentsAt lower parentOf ofRound anyBelow includesOf fieldOf
 marks = (refl, refl, refl, refl, refl)
+
+-- the stored rows stand in order: the marks of row 5 taken from round 2 to round 1, from there to round 0, and at once
+lowered : (lowerMarks dag inOrder 3 2 (0 ∷ 0 ∷ 0 ∷ 0 ∷ 0 ∷ 1 ∷ 0 ∷ 0 ∷ []) ≡ 0 ∷ 0 ∷ 1 ∷ 0 ∷ 0 ∷ 1 ∷ 0 ∷ 0 ∷ []) × (lowerMarks dag inOrder 2 1 (0 ∷ 0 ∷ 1 ∷ 0 ∷ 0 ∷ 1 ∷ 0 ∷ 0 ∷ []) ≡ 1 ∷ 0 ∷ 1 ∷ 0 ∷ 0 ∷ 1 ∷ 0 ∷ 0 ∷ []) × (lowerMarks dag inOrder 3 1 (0 ∷ 0 ∷ 0 ∷ 0 ∷ 0 ∷ 1 ∷ 0 ∷ 0 ∷ []) ≡ 1 ∷ 0 ∷ 1 ∷ 0 ∷ 0 ∷ 1 ∷ 0 ∷ 0 ∷ [])
+unfolding lowerMarks markEntries markBelow roundEntry searchIn keyAt wordsFrom orderOf ofRound includesOf fieldOf
+lowered = (refl, refl, refl)
 
 -- the call: the same, and tables that are not sound (a row more than is stored, one less)
 call : (linkedAnswer dag 8 5 0 ≡ says true) × (linkedAnswer dag 8 5 1 ≡ says false) × (linkedAnswer dag 0 8 0 ≡ Refuses 4) × (linkedAnswer dag 7 5 0 ≡ Refuses 8) × (linkedAnswer (record { blocks = dag .blocks; includes = dag .includes; count = 7 }) 8 5 0 ≡ Refuses 3)

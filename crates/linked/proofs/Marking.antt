@@ -2,15 +2,16 @@
 use Prim.Native.Nat.{ℕ, zero, suc, _+_, _<_, _≤_}
 use borrow.Author.Tests.{lt-ltb, le-ltb, ltb-true, eq-eqb, ne-eqb, eqb-true, eqb-false}
 use lib.Dec.{ltb, eqb}
-use lib.ListN.{length, getD, drop, set, replicate, drop-of-length-le}
+use lib.ListN.{length, getD, drop, set, replicate, length-set, drop-of-length-le}
 use lib.Seq.{drop-cons, getD-set-same, getD-set-other, set-out}
 use mathlib.Core.Bool.{Bool, true, false, cond, _&&_, _||_}
-use mathlib.Core.List.{List, _∷_}
+use mathlib.Core.List.{List, [], _∷_}
 use mathlib.Core.Path.{_≡_, refl, sym, _∙_}
 use native.Mathlib.Numerals.{add-one}
 use native.Mathlib.Omega.{arith}
 use Rattle.block_store.specs.Store.{storeOf, fieldOf, includesOf}
 use Rattle.linked.specs.Linked.{contains, ofRound, parentOf, lower}
+use Rattle.linked.specs.Lowering.{markList}
 use Rattle.linked.specs.Marks.{keptAt}
 use Rattle.types.proofs.Below.{any-zero, any-suc}
 use Rattle.types.proofs.Tests.{by-test, both-left, both-right, and-false}
@@ -70,7 +71,7 @@ same-arms : {A : Type 0} (t : Bool) (x : A) → cond t x x ≡ x
 same-arms true x = refl
 same-arms false x = refl
 
--- ---- mark_list: a turn
+-- ---- a row of a list marked
 module _ (bs : List ℕ) (n round : ℕ) (w : List ℕ) (long : n ≤ length w) (x : ℕ) (rest : List ℕ) (b : ℕ) where
   abbrev Turn : Type 0
   Turn = cond (ofRound bs n round b && contains b rest) 1 (getD (cond (ofRound bs n round x) (set w x 1) w) b 0)
@@ -95,7 +96,32 @@ module _ (bs : List ℕ) (n round : ℕ) (w : List ℕ) (long : n ≤ length w) 
   turn : Turn
   turn = by-test (eqb b x) (λ e. turn-same (eqb-true b x e)) turn-other
 
--- what is left to mark, over what is marked
+-- ---- mark_list
+one-length : (bs : List ℕ) (n round x : ℕ) (w : List ℕ) → length (cond (ofRound bs n round x) (set w x 1) w) ≡ length w
+one-length bs n round x w = by-test (ofRound bs n round x) (λ o. rw o (length-set w x 1)) (λ o. rw o refl)
+
+pub list-length : (bs : List ℕ) (n round : ℕ) (l w : List ℕ) → length (markList bs n round l w) ≡ length w
+list-length bs n round [] w = refl
+list-length bs n round (x ∷ xs) w = list-length bs n round xs (cond (ofRound bs n round x) (set w x 1) w) ∙ one-length bs n round x w
+
+-- byte by byte
+pub list-at : (bs : List ℕ) (n round : ℕ) (l w : List ℕ) → n ≤ length w → (b : ℕ) → getD (markList bs n round l w) b 0 ≡ cond (ofRound bs n round b && contains b l) 1 (getD w b 0)
+list-at bs n round [] w long b = rw (and-false (ofRound bs n round b)) refl
+list-at bs n round (x ∷ xs) w long b =
+    list-at bs n round xs (cond (ofRound bs n round x) (set w x 1) w) (omega (arith, one-length bs n round x w)) b ∙ turn bs n round w long x xs b
+
+-- what is left to mark makes the whole
+abbrev pub ListFrom : List ℕ → ℕ → ℕ → List ℕ → List ℕ → List ℕ → ℕ → Type 0
+ListFrom bs n round l w₀ w i = (i ≤ length l) × (length w ≡ length w₀) × (markList bs n round (drop i l) w ≡ markList bs n round l w₀)
+
+pub list-next : (bs : List ℕ) (n round : ℕ) (l w₀ w w′ : List ℕ) (i x : ℕ) → ListFrom bs n round l w₀ w i → i < length l
+    → x ≡ getD l i 0 → length w′ ≡ length w → w′ ≡ cond (ofRound bs n round x) (set w x 1) w → ListFrom bs n round l w₀ w′ (i + 1)
+list-next bs n round l w₀ w w′ i x inv h ex len ew = (omega arith, len ∙ inv .1, rw (add-one, ew, ex) (rw (drop-cons l i 0 h) at (inv .2)))
+
+pub list-done : (bs : List ℕ) (n round : ℕ) (l w₀ w : List ℕ) (i : ℕ) → ListFrom bs n round l w₀ w i → length l ≤ i → w ≡ markList bs n round l w₀
+list-done bs n round l w₀ w i inv h = simp (drop-of-length-le l h) at (inv .2)
+
+-- ---- the same byte by byte: what is left to mark, over what is marked
 abbrev pub MarkFrom : List ℕ → ℕ → ℕ → List ℕ → List ℕ → List ℕ → ℕ → Type 0
 MarkFrom bs n round l w₀ w i =
     (i ≤ length l) × (length w ≡ length w₀) × ((b : ℕ) → cond (ofRound bs n round b && contains b (drop i l)) 1 (getD w b 0) ≡ cond (ofRound bs n round b && contains b l) 1 (getD w₀ b 0))

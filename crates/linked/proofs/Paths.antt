@@ -10,15 +10,15 @@ use native.Mathlib.Omega.{arith}
 use Rattle.block_store.proofs.Soundness.{member-below}
 use Rattle.block_store.specs.Sound.{SoundStore}
 use Rattle.block_store.specs.Store.{Store, roundOf, includesOf}
-use Rattle.types.proofs.Below.{any-at, any-one}
 use Rattle.linked.proofs.Laws.{linked-level}
 use Rattle.linked.proofs.Marking.{of-round-in, round-of}
 use Rattle.linked.specs.Linked.{contains, ofRound, parentOf, lower, parentsAt, linked}
 use Rattle.linked.specs.Paths.{IncludePath, here, step}
+use Rattle.types.proofs.Below.{any-at, any-one}
 use Rattle.types.proofs.Tests.{both, both-left, both-right, either, either-left, either-right, lt-or-le}
 
 -- ---- the list has the row
-contains-member : (b : ℕ) (l : List ℕ) → contains b l ≡ true → List·Memᴰ b l
+pub contains-member : (b : ℕ) (l : List ℕ) → contains b l ≡ true → List·Memᴰ b l
 contains-member b [] e = absurd (false≢true e)
 contains-member b (x ∷ xs) e =
     ⊎-elim
@@ -26,7 +26,7 @@ contains-member b (x ∷ xs) e =
     (λ r. List·Memᴰ·tail (contains-member b xs r))
     (either (eqb b x) (contains b xs) e)
 
-member-contains : (b : ℕ) (l : List ℕ) → List·Memᴰ b l → contains b l ≡ true
+pub member-contains : (b : ℕ) (l : List ℕ) → List·Memᴰ b l → contains b l ≡ true
 member-contains b [] m = absurd (List·Memᴰ·not-nil m)
 member-contains b (x ∷ xs) m =
     ⊎-elim
@@ -36,20 +36,21 @@ member-contains b (x ∷ xs) m =
 
 -- ---- a row of the lower round, and its parent
 module _ (s : Store) (round : ℕ) (parents : ℕ → Bool) (b : ℕ) where
-  lower-round : lower s round parents b ≡ true → roundOf s b ≡ round
+  pub lower-round : lower s round parents b ≡ true → roundOf s b ≡ round
   unfolding lower
   lower-round e = round-of (s .blocks) (s .count) round b (both-left _ _ e)
 
-  lower-parent : lower s round parents b ≡ true → (k : ℕ) × (parents k ≡ true) × List·Memᴰ b (includesOf s k)
+  pub lower-parent : lower s round parents b ≡ true → (k : ℕ) × (parents k ≡ true) × List·Memᴰ b (includesOf s k) × (k < s .count)
   unfolding lower parentOf
   lower-parent e =
       let found = any-one (parentOf s parents b) (s .count) (both-right (ofRound (s .blocks) (s .count) round b) _ e) in (
         found .0,
         both-left (parents (found .0)) _ (found .2),
         contains-member b (includesOf s (found .0)) (both-right (parents (found .0)) _ (found .2)),
+        found .1,
       )
 
-  lower-is : (k : ℕ) → b < s .count → k < s .count → roundOf s b ≡ round → parents k ≡ true → List·Memᴰ b (includesOf s k) → lower s round parents b ≡ true
+  pub lower-is : (k : ℕ) → b < s .count → k < s .count → roundOf s b ≡ round → parents k ≡ true → List·Memᴰ b (includesOf s k) → lower s round parents b ≡ true
   unfolding lower parentOf
   lower-is k hb hk eb ek m =
       both

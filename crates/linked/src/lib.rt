@@ -1,6 +1,7 @@
 // Whether a block is an ancestor of a later one: block_store.rs, linked.
 // No public function has a `requires`.
 mod counts; // how many rows a round has
+pub mod lowering; // marks taken further down
 mod marks; // the marks in the work bytes, a round at a time
 pub mod parts; // the same without the test of the tables
 mod queue; // the kept rows in a queue, so that a step back looks at them alone

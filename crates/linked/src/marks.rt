@@ -5,12 +5,13 @@ use types::RoundNumber;
 use types::words::byte;
 use types::words::index;
 ghost use mathlib.Core.Path.{_≡_};
-ghost use mathlib.Core.Bool.{false, cond, _&&_};
+ghost use mathlib.Core.Bool.{false, cond};
 ghost use Prim.Native.Nat.{ℕ, _+_, _<_, _≤_};
 ghost use lib.ListN.{length, getD, set};
 ghost use Rattle.types.specs.Below.{anyBelow};
 ghost use Rattle.block_store.specs.Store.{storeOf};
-ghost use Rattle.linked.specs.Linked.{contains, ofRound, lower};
+ghost use Rattle.linked.specs.Linked.{ofRound, lower};
+ghost use Rattle.linked.specs.Lowering.{markList};
 ghost use Rattle.linked.specs.Marks.{keptAt, Clean, Empty, Reached};
 
 // Whether a row is a stored one of that round.
@@ -66,9 +67,14 @@ fn mark(blocks: &[u64], stored: usize, round: RoundNumber, row: usize, work: &mu
 }
 
 // Marks the rows of that round which stand in a list.
-fn mark_list(blocks: &[u64], stored: usize, round: RoundNumber, list: &[u64], work: &mut [u8])
-    requires { ⌜ stored ≤ length (now work) ⌝ }
-    ensures { λ _. ⌜ ((b : ℕ) → getD (now (work .exit)) b 0 ≡ cond (ofRound (now (blocks .entry)) stored (round .0) b && contains b (now (list .entry))) 1 (getD (now (work .entry)) b 0)) ⌝ }
+pub(crate) fn mark_list(
+    blocks: &[u64],
+    stored: usize,
+    round: RoundNumber,
+    list: &[u64],
+    work: &mut [u8],
+)
+    ensures { λ _. ⌜ now (work .exit) ≡ markList (now (blocks .entry)) stored (round .0) (now (list .entry)) (now (work .entry)) ⌝ }
 {
     let mut i = 0;
     while i < list.len() {

@@ -166,39 +166,7 @@ fn step_from(
     );
 }
 
-// The same with a queue of its own, for at most 256 rows.
-fn reach_256(
-    blocks: &[u64],
-    includes: &[u64],
-    stored: usize,
-    counts: &[u64],
-    low: RoundNumber,
-    upper: RoundNumber,
-    later: usize,
-    work: &mut [u8],
-)
-    requires { ⌜ stored ≤ length (now work) ⌝ }
-    requires { ⌜ low .0 ≤ upper .0 ⌝ }
-    requires { ⌜ Counted (now blocks) stored (low .0) (upper .0) (now counts) ⌝ }
-    requires { ⌜ Clean (now blocks) (upper .0) (now work) ⌝ }
-    requires { ⌜ Alone (now blocks) stored (upper .0) (now work) later ⌝ }
-    ensures { λ _. ⌜ Reached (storeOf (now (blocks .entry)) (now (includes .entry)) stored) (upper .0) (low .0) (now (work .entry)) (now (work .exit)) ⌝ }
-{
-    let mut queue = [0u16; 256];
-    step_from(
-        blocks,
-        includes,
-        stored,
-        counts,
-        low,
-        upper,
-        later,
-        &mut queue,
-        work,
-    );
-}
-
-// The same for at most 4,096 rows.
+// The same with a queue of its own, for at most 4,096 rows.
 fn reach_4096(
     blocks: &[u64],
     includes: &[u64],
@@ -281,10 +249,6 @@ fn reach(
     ensures { λ _. ⌜ Reached (storeOf (now (blocks .entry)) (now (includes .entry)) stored) (upper .0) (low .0) (now (work .entry)) (now (work .exit)) ⌝ }
 {
     if upper.0 <= low.0 {
-        return;
-    }
-    if stored <= 256 {
-        reach_256(blocks, includes, stored, counts, low, upper, later, work);
         return;
     }
     if stored <= 4096 {

@@ -167,42 +167,7 @@ fn missing_by(
     )
 }
 
-// The same for at most 256 rows on a side.
-fn missing_256(
-    size: u64,
-    blocks: &[u64],
-    includes: &[u64],
-    stored: usize,
-    waiting: &[u64],
-    named: &[u64],
-    pending: usize,
-    authority: AuthorityIndex,
-    area: &mut [u64],
-) -> Missing
-    requires { ⌜ max stored pending ≤ 256 ⌝ }
-    ensures { λ r. ⌜ reportedMissing r ≡ missingBy size (tablesOf (now (blocks .entry)) (now (includes .entry)) stored (now (waiting .entry)) (now (named .entry)) pending) (authority .0) (length (now (area .entry))) ⌝ }
-    ensures filled { λ _. ⌜ now (area .exit) ≡ areaBy size (tablesOf (now (blocks .entry)) (now (includes .entry)) stored (now (waiting .entry)) (now (named .entry)) pending) (authority .0) (length (now (area .entry))) ⌝ }
-{
-    let mut order = [0u16; 256];
-    let mut others = [0u16; 256];
-    let mut work = [0u16; 256];
-    missing_by(
-        size,
-        blocks,
-        includes,
-        stored,
-        waiting,
-        named,
-        pending,
-        &mut order,
-        &mut others,
-        &mut work,
-        authority,
-        area,
-    )
-}
-
-// The same for at most 4,096.
+// The same for at most 4,096 rows on a side.
 fn missing_4096(
     size: u64,
     blocks: &[u64],
@@ -297,19 +262,6 @@ pub fn missing_blocks(
     }
     let size = committee.size;
     let rows = larger(stored, pending);
-    if rows <= 256 {
-        return missing_256(
-            size,
-            blocks,
-            includes,
-            stored,
-            waiting,
-            named,
-            pending,
-            authority,
-            area,
-        );
-    }
     if rows <= 4096 {
         return missing_4096(
             size,

@@ -2,6 +2,7 @@
 pub mod Election
 pub mod Distinctness
 pub mod Counting
+pub mod Holding
 pub mod Walking
 pub mod Placing
 pub mod Ordered

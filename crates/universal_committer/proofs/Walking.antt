@@ -36,10 +36,13 @@ use Rattle.linked.specs.Linked.{linkedIn}
 use Rattle.support.specs.Quorums.{roundRows}
 use Rattle.types.specs.declared.AuthorityIndex.{AuthorityIndex}
 use Rattle.types.specs.declared.refusal.Refusal.{Refusal}
+use Rattle.universal_committer.proofs.Holding.{holds-length, holds-kept}
+use Rattle.universal_committer.specs.Marked.{Holds}
 use Rattle.universal_committer.specs.Options.{committers, committerOf}
 use Rattle.universal_committer.specs.Rules.{isRuled, ruledOf, ruledBy, rulesOf, recalledOr, foundOf, walkOf, Left}
 use Rattle.universal_committer.specs.Seats.{electedBy, seatFor, seatsBelow, seatsOver}
 use Rattle.universal_committer.specs.declared.options.UniversalCommitterOptions.{UniversalCommitterOptions}
+use Rattle.universal_committer.specs.declared.past.Past.{Past}
 use Rattle.universal_committer.specs.declared.walk.Walked.{Walked}
 use Rattle.universal_committer.specs.declared.walk.Walked.the-variants as walked
 
@@ -107,31 +110,31 @@ examine-more rules memory p ps xs = refl
 
 -- ---- a round
 pub record RoundFrom (s : Store) (stakes : List ℕ) (floor : ℕ) (o : UniversalCommitterOptions) (size : ℕ) (memory : List LeaderStatus) (round : ℕ) (area₀ : List ℕ) (from : ℕ)
-    (work₀ area work : List ℕ) (first j : ℕ) : Type 0 where
+    (work₀ area work : List ℕ) (past : Past) (first j : ℕ) : Type 0 where
   pub within : first ≤ length area
   pub same : length area ≡ length area₀
-  pub zeros : work ≡ replicate (length work₀) 0
+  pub held : Holds s past (length work₀) work
   pub left : first + length (seatsBelow o size round (committers o)) * statusWords ≡ from + length (seatsBelow o size round j) * statusWords
   pub room : length (seatsBelow o size round j) * statusWords ≤ first
   pub walked : examine (rulesOf s (linkedIn s (length work₀)) stakes floor o) memory (seatsBelow o size round j) (statusesOf (drop first area))
       ≡ examine (rulesOf s (linkedIn s (length work₀)) stakes floor o) memory (seatsBelow o size round (committers o)) (statusesOf (drop from area₀))
 
 pub round-start : (s : Store) (stakes : List ℕ) (floor : ℕ) (o : UniversalCommitterOptions) (size : ℕ) (memory : List LeaderStatus) (round : ℕ) (area : List ℕ) (from : ℕ)
-    (work : List ℕ) (j : ℕ) → from ≤ length area → length (seatsBelow o size round (committers o)) * statusWords ≤ from → work ≡ replicate (length work) 0 → j ≡ committers o
-    → RoundFrom s stakes floor o size memory round area from work area work from j
-round-start s stakes floor o size memory round area from work j h k z e =
+    (work : List ℕ) (past : Past) (j : ℕ) → from ≤ length area → length (seatsBelow o size round (committers o)) * statusWords ≤ from → Holds s past (length work) work → j ≡ committers o
+    → RoundFrom s stakes floor o size memory round area from work area work past from j
+round-start s stakes floor o size memory round area from work past j h k z e =
     let n : length (seatsBelow o size round j) ≡ length (seatsBelow o size round (committers o)) = ap (λ (m : ℕ). length (seatsBelow o size round m)) e in
     record {
       within = h;
       same = refl;
-      zeros = z;
+      held = z;
       left = omega arith;
       room = omega arith;
       walked = ap (λ (m : ℕ). examine (rulesOf s (linkedIn s (length work)) stakes floor o) memory (seatsBelow o size round m) (statusesOf (drop from area))) e;
     }
 
 module _ (s : Store) (stakes : List ℕ) (floor : ℕ) (o : UniversalCommitterOptions) (size : ℕ) (memory : List LeaderStatus) (round : ℕ) (area₀ : List ℕ) (from : ℕ)
-    (work₀ area work : List ℕ) (first j : ℕ) (inv : RoundFrom s stakes floor o size memory round area₀ from work₀ area work first j) where
+    (work₀ area work : List ℕ) (past : Past) (first j : ℕ) (inv : RoundFrom s stakes floor o size memory round area₀ from work₀ area work past first j) where
   abbrev rules : Seat → List LeaderStatus → Ruled
   rules = rulesOf s (linkedIn s (length work₀)) stakes floor o
 
@@ -157,14 +160,14 @@ module _ (s : Store) (stakes : List ℕ) (floor : ℕ) (o : UniversalCommitterOp
     seats-here : seatsBelow o size round j ≡ seatFor (j - 1) round e ++ seatsBelow o size round (j - 1)
     seats-here = ap (seatsBelow o size round) (back j h) ∙ seats-more o size round (j - 1) ∙ ap (λ (x : Elected). seatFor (j - 1) round x ++ seatsBelow o size round (j - 1)) (sym elected-here)
 
-    pub round-nobody : e ≡ Nobody → RoundFrom s stakes floor o size memory round area₀ from work₀ area work first (j - 1)
+    pub round-nobody : e ≡ Nobody → RoundFrom s stakes floor o size memory round area₀ from work₀ area work past first (j - 1)
     round-nobody q =
         let z : seatsBelow o size round j ≡ seatsBelow o size round (j - 1) = seats-here ∙ ap (λ (x : Elected). seatFor (j - 1) round x ++ seatsBelow o size round (j - 1)) q in
         let n : length (seatsBelow o size round j) ≡ length (seatsBelow o size round (j - 1)) = ap length z in
         record {
           within = inv .within;
           same = inv .same;
-          zeros = inv .zeros;
+          held = inv .held;
           left = omega (arith, inv .left);
           room = omega (arith, inv .room);
           walked = sym (ap (λ (ps : List Seat). examine rules memory ps (statusesOf (drop first area))) z) ∙ inv .walked;
@@ -185,7 +188,7 @@ module _ (s : Store) (stakes : List ℕ) (floor : ℕ) (o : UniversalCommitterOp
         found-here : foundOr (recall (a .0) round memory) (rules seat (statusesOf (drop first area))) ≡ ruledBy d
         unfolding rulesOf foundOf
         found-here =
-            let k : length work ≡ length work₀ = ap length (inv .zeros) ∙ length-replicate {A = ℕ} (length work₀) 0 in
+            let k : length work ≡ length work₀ = holds-length s past work₀ work (inv .held) in
             let f : d ≡ foundOf s (linkedIn s (length work₀)) stakes floor memory (committerOf o (j - 1)) (a .0) round (statusesOf (drop first area)) =
             ed ∙ ap (λ (n : ℕ). foundOf s (linkedIn s n) stakes floor memory b (a .0) round (statusesOf later)) k
             ∙ ap (λ (l : List ℕ). foundOf s (linkedIn s (length work₀)) stakes floor memory b (a .0) round (statusesOf l)) el
@@ -202,9 +205,9 @@ module _ (s : Store) (stakes : List ℕ) (floor : ℕ) (o : UniversalCommitterOp
         pub round-two : (n : Refusal) → d ≡ Refused n → two ≡ whole
         round-two n q = with-found (Refused n) q
 
-        pub round-push : (x : LeaderStatus) (area′ work′ : List ℕ) → d ≡ Decided x → work′ ≡ replicate (length work) 0 → area′ ≡ putOf area (first - statusWords) x
-            → RoundFrom s stakes floor o size memory round area₀ from work₀ area′ work′ (first - statusWords) (j - 1)
-        round-push x area′ work′ q ew e′ =
+        pub round-push : (x : LeaderStatus) (area′ work′ : List ℕ) (past′ : Past) → d ≡ Decided x → Holds s past′ (length work) work′ → area′ ≡ putOf area (first - statusWords) x
+            → RoundFrom s stakes floor o size memory round area₀ from work₀ area′ work′ past′ (first - statusWords) (j - 1)
+        round-push x area′ work′ past′ q ew e′ =
             let i : first - statusWords + statusWords ≡ first = omega (arith, round-room) in
             let n : length area′ ≡ length area = ap length e′ ∙ put-length area (first - statusWords) x in
             let m : length (seatsBelow o size round j) ≡ suc (length (seatsBelow o size round (j - 1))) = ap length seats-one in
@@ -214,21 +217,15 @@ module _ (s : Store) (stakes : List ℕ) (floor : ℕ) (o : UniversalCommitterOp
             record {
               within = omega (arith, inv .within, round-room);
               same = n ∙ inv .same;
-              zeros = ew ∙ ap (λ (k : ℕ). replicate k 0) (ap length (inv .zeros) ∙ length-replicate {A = ℕ} (length work₀) 0);
+              held = holds-kept s past work₀ work past′ work′ (inv .held) ew;
               left = omega (arith, inv .left, round-room);
               room = omega (arith, inv .room, round-room);
               walked = ap (λ (xs : List LeaderStatus). examine rules memory (seatsBelow o size round (j - 1)) xs) f ∙ with-found (Decided x) q;
             }
 
--- the work area is as it was: zeros
-pub zeros-kept : (work₀ work work′ : List ℕ) → work ≡ replicate (length work₀) 0 → work′ ≡ replicate (length work) 0 → work′ ≡ replicate (length work₀) 0
-zeros-kept work₀ work work′ e f = f ∙ ap (λ (n : ℕ). replicate n 0) (ap length e ∙ length-replicate {A = ℕ} (length work₀) 0)
-
-pub zeros-length : (work₀ work : List ℕ) → work ≡ replicate (length work₀) 0 → length work ≡ length work₀
-zeros-length work₀ work e = ap length e ∙ length-replicate {A = ℕ} (length work₀) 0
-
+-- zeros as many as at entry, by their own number
 pub zeros-own : (work₀ work : List ℕ) → work ≡ replicate (length work₀) 0 → work ≡ replicate (length work) 0
-zeros-own work₀ work e = e ∙ ap (λ (n : ℕ). replicate n 0) (sym (zeros-length work₀ work e))
+zeros-own work₀ work e = e ∙ ap (λ (n : ℕ). replicate n 0) (sym (ap length e ∙ length-replicate {A = ℕ} (length work₀) 0))
 
 -- ---- the rounds
 abbrev andSeen : Examined → (List LeaderStatus → Examined) → Examined
@@ -246,25 +243,28 @@ examine-append rules memory (p ∷ ps) qs xs = go (foundOr (recall (p .authority
     go (is x) ih = ih x
     go twice ih = refl
 
+pub two-left : (r : Walked) (from k : ℕ) → r ≡ walked.Two → Left r from k
+two-left r from k q = rw q tt
+
 pub record RoundsFrom (s : Store) (stakes : List ℕ) (floor : ℕ) (o : UniversalCommitterOptions) (size : ℕ) (memory : List LeaderStatus) (low rounds : ℕ)
-    (area₀ work₀ area work : List ℕ) (first n : ℕ) : Type 0 where
+    (area₀ work₀ area work : List ℕ) (past : Past) (first n : ℕ) : Type 0 where
   pub within : first ≤ length area
   pub same : length area ≡ length area₀
-  pub zeros : work ≡ replicate (length work₀) 0
+  pub held : Holds s past (length work₀) work
   pub count : n ≤ rounds
   pub left : first + length (seatsOver o size low rounds) * statusWords ≡ length area₀ + length (seatsOver o size low n) * statusWords
   pub room : length (seatsOver o size low n) * statusWords ≤ first
   pub walked : examine (rulesOf s (linkedIn s (length work₀)) stakes floor o) memory (seatsOver o size low n) (statusesOf (drop first area))
       ≡ examine (rulesOf s (linkedIn s (length work₀)) stakes floor o) memory (seatsOver o size low rounds) []
 
-pub rounds-start : (s : Store) (stakes : List ℕ) (floor : ℕ) (o : UniversalCommitterOptions) (size : ℕ) (memory : List LeaderStatus) (low rounds : ℕ) (area work : List ℕ)
-    → length (seatsOver o size low rounds) * statusWords ≤ length area → work ≡ replicate (length work) 0
-    → RoundsFrom s stakes floor o size memory low rounds area work area work (length area) rounds
-rounds-start s stakes floor o size memory low rounds area work h z =
+pub rounds-start : (s : Store) (stakes : List ℕ) (floor : ℕ) (o : UniversalCommitterOptions) (size : ℕ) (memory : List LeaderStatus) (low rounds : ℕ) (area work : List ℕ) (past : Past)
+    → length (seatsOver o size low rounds) * statusWords ≤ length area → Holds s past (length work) work
+    → RoundsFrom s stakes floor o size memory low rounds area work area work past (length area) rounds
+rounds-start s stakes floor o size memory low rounds area work past h z =
     record {
       within = le-refl (length area);
       same = refl;
-      zeros = z;
+      held = z;
       count = le-refl rounds;
       left = refl;
       room = h;
@@ -272,7 +272,7 @@ rounds-start s stakes floor o size memory low rounds area work h z =
     }
 
 module _ (s : Store) (stakes : List ℕ) (floor : ℕ) (o : UniversalCommitterOptions) (size : ℕ) (memory : List LeaderStatus) (low rounds : ℕ)
-    (area₀ work₀ area work : List ℕ) (first n : ℕ) (inv : RoundsFrom s stakes floor o size memory low rounds area₀ work₀ area work first n) where
+    (area₀ work₀ area work : List ℕ) (past : Past) (first n : ℕ) (inv : RoundsFrom s stakes floor o size memory low rounds area₀ work₀ area work past first n) where
   abbrev rules-all : Seat → List LeaderStatus → Ruled
   rules-all = rulesOf s (linkedIn s (length work₀)) stakes floor o
 
@@ -305,7 +305,7 @@ module _ (s : Store) (stakes : List ℕ) (floor : ℕ) (o : UniversalCommitterOp
         (er : walkOf r area′ ≡ examine (rulesOf s (linkedIn s (length work)) stakes floor o) memory (seatsBelow o size (low + (n - 1)) (committers o)) (statusesOf (drop first area))) where
       after-round : (r′ : Walked) → r ≡ r′ → andSeen (walkOf r′ area′) (examine rules-all memory (seatsOver o size low (n - 1))) ≡ all
       after-round r′ q =
-          let k : length work ≡ length work₀ = zeros-length work₀ work (inv .zeros) in
+          let k : length work ≡ length work₀ = holds-length s past work₀ work (inv .held) in
           let f : walkOf r′ area′ ≡ examine rules-all memory (seatsBelow o size (low + (n - 1)) (committers o)) (statusesOf (drop first area)) =
           sym (ap (λ (w : Walked). walkOf w area′) q) ∙ er
           ∙ ap (λ (m : ℕ). examine (rulesOf s (linkedIn s m) stakes floor o) memory (seatsBelow o size (low + (n - 1)) (committers o)) (statusesOf (drop first area))) k in
@@ -313,17 +313,17 @@ module _ (s : Store) (stakes : List ℕ) (floor : ℕ) (o : UniversalCommitterOp
           ∙ sym (examine-append rules-all memory (seatsBelow o size (low + (n - 1)) (committers o)) (seatsOver o size low (n - 1)) (statusesOf (drop first area)))
           ∙ sym (ap (λ (ps : List Seat). examine rules-all memory ps (statusesOf (drop first area))) rounds-here) ∙ inv .walked
 
-      pub rounds-two : r ≡ walked.Two → two ≡ all
-      rounds-two q = after-round walked.Two q
+      pub rounds-two : r ≡ walked.Two → walkOf r area′ ≡ all
+      rounds-two q = ap (λ (w : Walked). walkOf w area′) q ∙ after-round walked.Two q
 
-      pub rounds-next : (next : ℕ) (work′ : List ℕ) → r ≡ walked.From next → Left r first (length (seatsBelow o size (low + (n - 1)) (committers o))) → length area′ ≡ length area
-          → work′ ≡ replicate (length work) 0 → RoundsFrom s stakes floor o size memory low rounds area₀ work₀ area′ work′ next (n - 1)
-      rounds-next next work′ q w l ew =
+      pub rounds-next : (next : ℕ) (work′ : List ℕ) (past′ : Past) → r ≡ walked.From next → Left r first (length (seatsBelow o size (low + (n - 1)) (committers o))) → length area′ ≡ length area
+          → Holds s past′ (length work) work′ → RoundsFrom s stakes floor o size memory low rounds area₀ work₀ area′ work′ past′ next (n - 1)
+      rounds-next next work′ past′ q w l ew =
           let u : next + length (seatsBelow o size (low + (n - 1)) (committers o)) * statusWords ≡ first = rw q at w in
           record {
             within = omega (arith, inv .within);
             same = l ∙ inv .same;
-            zeros = zeros-kept work₀ work work′ (inv .zeros) ew;
+            held = holds-kept s past work₀ work past′ work′ (inv .held) ew;
             count = omega (arith, inv .count);
             left = omega (arith, inv .left, count-here);
             room = omega (arith, inv .room, count-here);

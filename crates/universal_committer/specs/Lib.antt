@@ -3,3 +3,4 @@ pub mod Seats
 pub mod Rules
 pub mod Calls
 pub mod Sequence
+pub mod Marked

@@ -161,47 +161,6 @@ fn commit_by(
     }
 }
 
-// The same for at most 256 stored rows.
-fn commit_256(
-    committee: Committee,
-    options: UniversalCommitterOptions,
-    blocks: &[u64],
-    includes: &[u64],
-    stored: usize,
-    memory: &mut [u64],
-    decided: usize,
-    last: AuthorRound,
-    threshold: RoundNumber,
-    area: &mut [u64],
-    work: &mut [u8],
-) -> Committed
-    requires { ⌜ stored ≤ 256 ⌝ }
-    ensures { λ r. ⌜ reportedCommitted r ≡ commitAnswer committee options (storeOf (now (blocks .entry)) (now (includes .entry)) stored) (now (memory .entry)) decided last (threshold .0) (length (now (area .entry))) (length (now (work .entry))) ⌝ }
-    ensures filled { λ _. ⌜ now (area .exit) ≡ commitArea committee options (storeOf (now (blocks .entry)) (now (includes .entry)) stored) (now (memory .entry)) decided last (threshold .0) (length (now (area .entry))) (length (now (work .entry))) ⌝ }
-    ensures remembers { λ _. ⌜ now (memory .exit) ≡ commitMemory committee options (storeOf (now (blocks .entry)) (now (includes .entry)) stored) (now (memory .entry)) decided last (threshold .0) (length (now (area .entry))) (length (now (work .entry))) ⌝ }
-    ensures zeroed { λ _. ⌜ now (work .exit) ≡ replicate (length (now (work .entry))) 0 ⌝ }
-{
-    let mut order = [0u16; 256];
-    let mut places = [0u16; 256];
-    let mut spare = [0u16; 256];
-    commit_by(
-        committee,
-        options,
-        blocks,
-        includes,
-        stored,
-        memory,
-        decided,
-        last,
-        threshold,
-        area,
-        work,
-        &mut order,
-        &mut places,
-        &mut spare,
-    )
-}
-
 // The same for at most 4,096 stored rows.
 fn commit_4096(
     committee: Committee,
@@ -303,23 +262,6 @@ pub fn try_commit(
     ensures remembers { λ _. ⌜ now (memory .exit) ≡ commitMemory committee options (storeOf (now (blocks .entry)) (now (includes .entry)) stored) (now (memory .entry)) decided last (threshold .0) (length (now (area .entry))) (length (now (work .entry))) ⌝ }
     ensures zeroed { λ _. ⌜ now (work .exit) ≡ replicate (length (now (work .entry))) 0 ⌝ }
 {
-    if stored <= 256 {
-        if decided <= 256 {
-            return commit_256(
-                committee,
-                options,
-                blocks,
-                includes,
-                stored,
-                memory,
-                decided,
-                last,
-                threshold,
-                area,
-                work,
-            );
-        }
-    }
     if stored <= 4096 {
         if decided <= 4096 {
             return commit_4096(

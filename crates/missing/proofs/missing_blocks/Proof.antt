@@ -40,8 +40,8 @@ returns-2 c =
 larger-requires : tie.Need-larger-requires
 larger-requires c κs = search needs
 
-missing-256-requires : tie.Need-missing-256-requires
-missing-256-requires c κs = search needs
+missing-4096-requires : tie.Need-missing-4096-requires
+missing-4096-requires c κs = search needs
 
 same-length-3 : tie.Need-same-length-3
 same-length-3 c = search needs
@@ -50,31 +50,19 @@ returns-3 : tie.Need-returns-3
 returns-3 c =
     let a = c .before .before .before .before .before .before .before .before .before .before .before .before .before .before .args in
     let t : Tables = tablesOf (a .blocks .now) (a .includes .now) (a .stored) (a .waiting .now) (a .named .now) (a .pending) in
-    call-rest (a .committee) t (a .authority .0) (length (a .area .now)) (sym (c .before .before .before .before .before .before .before .before .is-sound .ensures) ∙ not-false _ (c .before .before .before .before .before .before .before .if1 .left)) (c .before .before .before .before .before .before .if2 .left) (c .before .before .missing-256 .result) _ (c .before .before .missing-256 .ensures)
+    call-rest (a .committee) t (a .authority .0) (length (a .area .now)) (sym (c .before .before .before .before .before .before .before .before .is-sound .ensures) ∙ not-false _ (c .before .before .before .before .before .before .before .if1 .left)) (c .before .before .before .before .before .before .if2 .left) (c .before .before .missing-4096 .result) _ (c .before .before .missing-4096 .ensures)
 
-missing-4096-requires : tie.Need-missing-4096-requires
-missing-4096-requires c κs = search needs
+missing-65536-requires : tie.Need-missing-65536-requires
+missing-65536-requires c κs = search needs
 
 same-length-4 : tie.Need-same-length-4
 same-length-4 c = search needs
 
 returns-4 : tie.Need-returns-4
 returns-4 c =
-    let a = c .before .before .before .before .before .before .before .before .before .before .before .before .before .before .before .args in
+    let a = c .before .before .before .before .before .before .before .before .before .before .before .before .before .before .args in
     let t : Tables = tablesOf (a .blocks .now) (a .includes .now) (a .stored) (a .waiting .now) (a .named .now) (a .pending) in
-    call-rest (a .committee) t (a .authority .0) (length (a .area .now)) (sym (c .before .before .before .before .before .before .before .before .before .is-sound .ensures) ∙ not-false _ (c .before .before .before .before .before .before .before .before .if1 .left)) (c .before .before .before .before .before .before .before .if2 .left) (c .before .before .missing-4096 .result) _ (c .before .before .missing-4096 .ensures)
-
-missing-65536-requires : tie.Need-missing-65536-requires
-missing-65536-requires c κs = search needs
-
-same-length-5 : tie.Need-same-length-5
-same-length-5 c = search needs
-
-returns-5 : tie.Need-returns-5
-returns-5 c =
-    let a = c .before .before .before .before .before .before .before .before .before .before .before .before .before .before .before .args in
-    let t : Tables = tablesOf (a .blocks .now) (a .includes .now) (a .stored) (a .waiting .now) (a .named .now) (a .pending) in
-    call-rest (a .committee) t (a .authority .0) (length (a .area .now)) (sym (c .before .before .before .before .before .before .before .before .before .is-sound .ensures) ∙ not-false _ (c .before .before .before .before .before .before .before .before .if1 .left)) (c .before .before .before .before .before .before .before .if2 .left) (c .before .before .missing-65536 .result) _ (c .before .before .missing-65536 .ensures)
+    call-rest (a .committee) t (a .authority .0) (length (a .area .now)) (sym (c .before .before .before .before .before .before .before .before .is-sound .ensures) ∙ not-false _ (c .before .before .before .before .before .before .before .if1 .left)) (c .before .before .before .before .before .before .if2 .left) (c .before .before .missing-65536 .result) _ (c .before .before .missing-65536 .ensures)
 
 pub missing-blocks-spec : {M : Type 1} → statement M
 missing-blocks-spec =
@@ -88,12 +76,9 @@ missing-blocks-spec =
     same-length-2
     returns-2
     larger-requires
-    missing-256-requires
+    missing-4096-requires
     same-length-3
     returns-3
-    missing-4096-requires
-    same-length-4
-    returns-4
     missing-65536-requires
-    same-length-5
-    returns-5)
+    same-length-4
+    returns-4)

@@ -22,8 +22,8 @@ returns-2 c =
     let a = c .before .before .before .before .before .before .before .before .args in
     (no-options (a .committee) (a .options) (storeOf (a .blocks .now) (a .includes .now) (a .stored)) (a .leader .0) (a .round .0) (a .statuses .now) (length (a .work .now)) (a .rule) (passed _ _ (c .before .before .before .is-sound .ensures) (c .before .before .if1 .left)) (failed _ _ (c .before .are-sound .ensures) (c .if2 .taken)), c .before .before .before .before .before .before .before .before .pre)
 
-decide-256-requires : tie.Need-decide-256-requires
-decide-256-requires c κs = ((passed _ _ (c .before .before .before .before .before .is-sound .ensures) (c .before .before .before .before .if1 .left), passed _ _ (c .before .before .before .are-sound .ensures) (c .before .before .if2 .left)), (c .before .if3 .taken, c .before .before .before .before .before .before .before .before .before .before .pre))
+decide-4096-requires : tie.Need-decide-4096-requires
+decide-4096-requires c κs = ((passed _ _ (c .before .before .before .before .before .is-sound .ensures) (c .before .before .before .before .if1 .left), passed _ _ (c .before .before .before .are-sound .ensures) (c .before .before .if2 .left)), (c .before .if3 .taken, c .before .before .before .before .before .before .before .before .before .before .pre))
 
 same-length : tie.Need-same-length
 same-length c = search needs
@@ -31,8 +31,8 @@ same-length c = search needs
 returns-3 : tie.Need-returns-3
 returns-3 c = search needs
 
-decide-4096-requires : tie.Need-decide-4096-requires
-decide-4096-requires c κs = ((passed _ _ (c .before .before .before .before .before .before .is-sound .ensures) (c .before .before .before .before .before .if1 .left), passed _ _ (c .before .before .before .before .are-sound .ensures) (c .before .before .before .if2 .left)), (c .before .if4 .taken, c .before .before .before .before .before .before .before .before .before .before .before .pre))
+decide-65536-requires : tie.Need-decide-65536-requires
+decide-65536-requires c κs = ((passed _ _ (c .before .before .before .before .before .before .is-sound .ensures) (c .before .before .before .before .before .if1 .left), passed _ _ (c .before .before .before .before .are-sound .ensures) (c .before .before .before .if2 .left)), (c .before .if4 .taken, c .before .before .before .before .before .before .before .before .before .before .before .pre))
 
 same-length-2 : tie.Need-same-length-2
 same-length-2 c = search needs
@@ -40,19 +40,10 @@ same-length-2 c = search needs
 returns-4 : tie.Need-returns-4
 returns-4 c = search needs
 
-decide-65536-requires : tie.Need-decide-65536-requires
-decide-65536-requires c κs = ((passed _ _ (c .before .before .before .before .before .before .before .is-sound .ensures) (c .before .before .before .before .before .before .if1 .left), passed _ _ (c .before .before .before .before .before .are-sound .ensures) (c .before .before .before .before .if2 .left)), (c .before .if5 .taken, c .before .before .before .before .before .before .before .before .before .before .before .before .pre))
-
-same-length-3 : tie.Need-same-length-3
-same-length-3 c = search needs
-
 returns-5 : tie.Need-returns-5
-returns-5 c = search needs
-
-returns-6 : tie.Need-returns-6
-returns-6 c =
-    let a = c .before .before .before .before .before .before .before .before .before .before .before .args in
-    (no-rows (a .committee) (a .options) (storeOf (a .blocks .now) (a .includes .now) (a .stored)) (a .leader .0) (a .round .0) (a .statuses .now) (length (a .work .now)) (a .rule) (passed _ _ (c .before .before .before .before .before .before .is-sound .ensures) (c .before .before .before .before .before .if1 .left), passed _ _ (c .before .before .before .before .are-sound .ensures) (c .before .before .before .if2 .left)) (c .if5 .left), c .before .before .before .before .before .before .before .before .before .before .before .pre)
+returns-5 c =
+    let a = c .before .before .before .before .before .before .before .before .before .before .args in
+    (no-rows (a .committee) (a .options) (storeOf (a .blocks .now) (a .includes .now) (a .stored)) (a .leader .0) (a .round .0) (a .statuses .now) (length (a .work .now)) (a .rule) (passed _ _ (c .before .before .before .before .before .is-sound .ensures) (c .before .before .before .before .if1 .left), passed _ _ (c .before .before .before .are-sound .ensures) (c .before .before .if2 .left)) (c .if4 .left), c .before .before .before .before .before .before .before .before .before .before .pre)
 
 pub decide-spec : {M : Type 1} → statement M
 decide-spec =
@@ -62,13 +53,10 @@ decide-spec =
     returns
     are-sound-requires
     returns-2
-    decide-256-requires
+    decide-4096-requires
     same-length
     returns-3
-    decide-4096-requires
+    decide-65536-requires
     same-length-2
     returns-4
-    decide-65536-requires
-    same-length-3
-    returns-5
-    returns-6)
+    returns-5)

@@ -14,11 +14,8 @@ returns c =
     let a = c .before .before .before .before .before .before .args in
     direct-skip (storeOf (a .blocks .now) (a .includes .now) (a .stored)) (rowsOfRound (a .blocks .now) (a .order .now) (a .stored)) (a .stakes .now) (a .floor .0) (a .options) (a .leader .0) (a .round .0) _ (c .before .skipped .ensures) (c .if1 .taken)
 
-wave-number-requires : tie.Need-wave-number-requires
-wave-number-requires c κs = search needs
-
-decision-round-requires : tie.Need-decision-round-requires
-decision-round-requires c κs = search needs
+deciding-round-requires : tie.Need-deciding-round-requires
+deciding-round-requires c κs = search needs
 
 only-supported-requires : tie.Need-only-supported-requires
 only-supported-requires c κs = search needs
@@ -28,8 +25,8 @@ commit-or-requires c κs = search needs
 
 returns-2 : tie.Need-returns-2
 returns-2 c =
-    let a = c .before .before .before .before .before .before .before .before .before .before .args in
-    direct-found (storeOf (a .blocks .now) (a .includes .now) (a .stored)) (rowsOfRound (a .blocks .now) (a .order .now) (a .stored)) (a .stakes .now) (a .floor .0) (a .options) (a .leader .0) (a .round .0) _ (c .before .before .before .before .before .skipped .ensures) (c .before .before .before .before .if1 .left) (c .before .before .before .wave-number .result) (c .before .before .decision-round .result .0) _ _ (c .before .before .before .wave-number .ensures) (c .before .before .decision-round .ensures) (c .before .only-supported .ensures) (c .commit-or .ensures)
+    let a = c .before .before .before .before .before .before .before .before .before .args in
+    direct-found (storeOf (a .blocks .now) (a .includes .now) (a .stored)) (rowsOfRound (a .blocks .now) (a .order .now) (a .stored)) (a .stakes .now) (a .floor .0) (a .options) (a .leader .0) (a .round .0) _ (c .before .before .before .before .skipped .ensures) (c .before .before .before .if1 .left) (c .before .before .deciding-round .result .0) _ _ (c .before .before .deciding-round .ensures) (c .before .only-supported .ensures) (c .commit-or .ensures)
 
 pub direct-decision-spec : {M : Type 1} → statement M
 direct-decision-spec =
@@ -37,8 +34,7 @@ direct-decision-spec =
     (tie.spec
     skipped-requires
     returns
-    wave-number-requires
-    decision-round-requires
+    deciding-round-requires
     only-supported-requires
     commit-or-requires
     returns-2)

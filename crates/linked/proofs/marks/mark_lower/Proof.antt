@@ -1,7 +1,11 @@
 -- `mark_lower` meets its contract. The loop: what the rows passed have marked (`LowFrom`).
-use Prim.Native.Nat.{_-_}
+use Prim.Native.Nat.{ℕ, _-_}
 use borrow.Author.Needs.{needs}
-use Rattle.linked.proofs.Marking.{LowFrom, low-none, low-pass, low-mark, low-done}
+use lib.ListN.{getD}
+use mathlib.Core.List.{List}
+use mathlib.Core.Path.{ap, _∙_}
+use native.Mathlib.Omega.{arith}
+use Rattle.linked.proofs.Marking.{list-at, LowFrom, low-none, low-pass, low-mark, low-done}
 use Rattle.linked.proofs.marks.mark_lower.Statement.{statement}
 use Rattle.linked.proofs.marks.mark_lower.Tie as tie
 
@@ -44,7 +48,7 @@ loop-again c =
     let a = start .args in
     low-mark (a .blocks .now) (a .includes .now) (a .stored) (a .upper .0) (a .low .0) (a .work .now) (at-loop .loop .work) (at-loop .loop .k) (start .pre .1) (at-loop .loop .inv)
     _ (at-includes-of .includes-of .result .now) (at-mark-list .mark-list .last .1 .1 .1 .1 .0)
-    (at-is-kept .is-kept .ensures) (at-if1 .if1 .taken) (at-loop-test .loop-test .taken) (at-includes-of .includes-of .ensures) (at-mark-list .mark-list .kept .1 .1 .1 .1 .0) (at-mark-list .mark-list .ensures)
+    (at-is-kept .is-kept .ensures) (at-if1 .if1 .taken) (at-loop-test .loop-test .taken) (at-includes-of .includes-of .ensures) (at-mark-list .mark-list .kept .1 .1 .1 .1 .0) (λ b. ap (λ (w : List ℕ). getD w b 0) (at-mark-list .mark-list .ensures) ∙ list-at (a .blocks .now) (a .stored) (a .low .0) (at-includes-of .includes-of .result .now) (at-loop .loop .work) (omega (arith, at-loop .loop .inv .1, start .pre .0)) b)
 
 loop-less-2 : tie.Need-loop-less-2 Inv-loop μ-loop
 loop-less-2 c = search needs

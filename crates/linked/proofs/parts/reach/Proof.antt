@@ -11,9 +11,6 @@ returns c =
     let a = start .args in
     reached-here (storeOf (a .blocks .now) (a .includes .now) (a .stored)) (a .upper .0) (a .low .0) (a .work .now) (start .pre .1 .0) (c .if1 .taken) (start .pre .1 .1 .1 .0)
 
-reach-256-requires : tie.Need-reach-256-requires
-reach-256-requires c κs = search needs
-
 same-length : tie.Need-same-length
 same-length c = search needs
 
@@ -32,23 +29,14 @@ returns-3 c = search needs
 reach-65536-requires : tie.Need-reach-65536-requires
 reach-65536-requires c κs = search needs
 
-same-length-3 : tie.Need-same-length-3
-same-length-3 c = search needs
-
-returns-4 : tie.Need-returns-4
-returns-4 c = search needs
-
 pub reach-spec : {M : Type 1} → statement M
 reach-spec =
     tie.close
     (tie.spec
     returns
-    reach-256-requires
+    reach-4096-requires
     same-length
     returns-2
-    reach-4096-requires
-    same-length-2
-    returns-3
     reach-65536-requires
-    same-length-3
-    returns-4)
+    same-length-2
+    returns-3)

@@ -26,7 +26,7 @@ enum-told : tie.Need-enum-told
 enum-told c = search needs
 
 ruled-requires : tie.Need-ruled-requires
-ruled-requires c κs = (c .before .before .before .before .before .before .before .before .before .before .before .before .pre .0, c .before .before .before .before .before .before .before .before .before .before .before .before .pre .1 .0)
+ruled-requires c κs = search needs
 
 same-length : tie.Need-same-length
 same-length c = search needs
@@ -35,7 +35,7 @@ returns-2 : tie.Need-returns-2
 returns-2 c =
     let a = c .before .before .before .before .before .before .before .before .before .before .before .before .before .before .before .args in
     let s = storeOf (a .blocks .now) (a .includes .now) (a .stored) in
-    (found-is s (linkedIn s (length (a .work .now))) (a .stakes .now) (a .floor .0) (a .sorted) (a .memory .now) (a .places .now) (c .before .before .before .before .before .before .before .before .before .before .before .before .before .before .before .pre .1 .1) (a .base) (a .place .authority .0) (a .place .round .0) (statusesOf (a .later .now)) (c .before .before .before .before .before .before .remembered .result) _ (c .before .before .before .before .before .before .remembered .ensures) (c .before .before .before .before .enum-told .given .1) (c .before .before .ruled .result) (c .before .before .ruled .ensures .0), c .before .before .ruled .ensures .1)
+    (found-is s (linkedIn s (length (a .work .now))) (a .stakes .now) (a .floor .0) (a .sorted) (a .memory .now) (a .places .now) (c .before .before .before .before .before .before .before .before .before .before .before .before .before .before .before .pre .1 .1) (a .base) (a .place .authority .0) (a .place .round .0) (statusesOf (a .later .now)) (c .before .before .before .before .before .before .remembered .result) _ (c .before .before .before .before .before .before .remembered .ensures) (c .before .before .before .before .enum-told .given .1) (c .before .before .ruled .result .decision) (c .before .before .ruled .ensures .0), c .before .before .ruled .ensures .1)
 
 pub decision-at-spec : {M : Type 1} → statement M
 decision-at-spec =

@@ -1,4 +1,4 @@
--- `examine_round` meets its contract. The invariant: the committers below j make of the statuses so far what all make of those at entry. Assumes nothing.
+-- `examine_round` meets its contract. The committers below j make of the statuses so far what all make of those at entry. Assumes nothing.
 use Prim.Native.Nat.{_-_}
 use borrow.Author.Needs.{needs}
 use lib.ListN.{length, take, drop}
@@ -6,15 +6,16 @@ use mathlib.Core.Path.{_∙_}
 use native.Mathlib.Omega.{arith}
 use Rattle.block_store.specs.Store.{storeOf}
 use Rattle.consensus.specs.Statuses.{statusesOf}
-use Rattle.universal_committer.proofs.Walking.{RoundFrom, round-start, round-done, round-left, round-nobody, round-room, round-two, round-push, tail-is, zeros-kept, zeros-length, zeros-own}
+use Rattle.universal_committer.proofs.Holding.{holds-length, holds-own, holds-kept}
+use Rattle.universal_committer.proofs.Walking.{RoundFrom, round-start, round-done, round-left, round-nobody, round-room, round-two, round-push, tail-is}
 use Rattle.universal_committer.proofs.walk.examine_round.Statement.{statement}
 use Rattle.universal_committer.proofs.walk.examine_round.Tie as tie
 
 abbrev Inv-loop : tie.InvT-loop
-Inv-loop blocks includes stored order stakes floor options size memory places sorted round area₀ from work₀ first₀ j₀ area work first j = RoundFrom (storeOf blocks includes stored) stakes (floor .0) options size (statusesOf memory) (round .0) area₀ from work₀ area work first j
+Inv-loop blocks includes stored order stakes floor options size memory places sorted round area₀ from work₀ first₀ past₀ j₀ area work first past j = RoundFrom (storeOf blocks includes stored) stakes (floor .0) options size (statusesOf memory) (round .0) area₀ from work₀ area work past first j
 
 abbrev μ-loop : tie.MeasureT-loop
-μ-loop blocks includes stored order stakes floor options size memory places sorted round area₀ from work₀ first₀ j₀ area work first j = j
+μ-loop blocks includes stored order stakes floor options size memory places sorted round area₀ from work₀ first₀ past₀ j₀ area work first past j = j
 
 committer-count-requires : tie.Need-committer-count-requires Inv-loop μ-loop
 committer-count-requires c κs = c .before .before .before .before .before .before .before .before .pre .0
@@ -22,7 +23,7 @@ committer-count-requires c κs = c .before .before .before .before .before .befo
 loop-holds : tie.Need-loop-holds Inv-loop μ-loop
 loop-holds c =
     let a = c .before .before .before .before .before .before .before .before .before .args in
-    round-start (storeOf (a .blocks .now) (a .includes .now) (a .stored)) (a .stakes .now) (a .floor .0) (a .options) (a .size) (statusesOf (a .memory .now)) (a .round .0) (a .area .now) (a .from) (a .work .now) (c .committer-count .result) (c .before .before .before .before .before .before .before .before .before .pre .1 .0 .0) (c .before .before .before .before .before .before .before .before .before .pre .1 .0 .1) (c .before .before .before .before .before .before .before .before .before .pre .1 .1 .0) (c .committer-count .ensures)
+    round-start (storeOf (a .blocks .now) (a .includes .now) (a .stored)) (a .stakes .now) (a .floor .0) (a .options) (a .size) (statusesOf (a .memory .now)) (a .round .0) (a .area .now) (a .from) (a .work .now) (a .start) (c .committer-count .result) (c .before .before .before .before .before .before .before .before .before .pre .1 .0 .0) (c .before .before .before .before .before .before .before .before .before .pre .1 .0 .1) (c .before .before .before .before .before .before .before .before .before .pre .1 .1 .0) (c .committer-count .ensures)
 
 sub-j : tie.Need-sub-j Inv-loop μ-loop
 sub-j c = search needs
@@ -46,7 +47,7 @@ loop-again : tie.Need-loop-again Inv-loop μ-loop
 loop-again c =
     let a = c .before .before .before .before .before .before .before .before .before .before .before .before .before .before .before .args in
     let l = c .before .before .before .before .before .loop in
-    round-nobody (storeOf (a .blocks .now) (a .includes .now) (a .stored)) (a .stakes .now) (a .floor .0) (a .options) (a .size) (statusesOf (a .memory .now)) (a .round .0) (a .area .now) (a .from) (a .work .now) (l .area) (l .work) (l .first) (l .j) (l .inv) (c .before .before .before .before .loop-test .taken) (c .before .before .before .committer .result) (c .before .before .before .committer .ensures) (c .before .before .elected .result) (c .before .before .elected .ensures) (c .enum-told .given .1)
+    round-nobody (storeOf (a .blocks .now) (a .includes .now) (a .stored)) (a .stakes .now) (a .floor .0) (a .options) (a .size) (statusesOf (a .memory .now)) (a .round .0) (a .area .now) (a .from) (a .work .now) (l .area) (l .work) (l .past) (l .first) (l .j) (l .inv) (c .before .before .before .before .loop-test .taken) (c .before .before .before .committer .result) (c .before .before .before .committer .ensures) (c .before .before .elected .result) (c .before .before .elected .ensures) (c .enum-told .given .1)
 
 mul-decision-at : tie.Need-mul-decision-at Inv-loop μ-loop
 mul-decision-at c =
@@ -64,31 +65,37 @@ part-decision-at-end : tie.Need-part-decision-at-end Inv-loop μ-loop
 part-decision-at-end c = search needs
 
 decision-at-requires : tie.Need-decision-at-requires Inv-loop μ-loop
-decision-at-requires c κs = (zeros-own (c .before .before .before .before .before .before .before .before .before .before .before .before .before .before .before .before .before .before .before .args .work .now) (c .before .before .before .before .before .before .before .before .before .loop .work) (c .before .before .before .before .before .before .before .before .before .loop .inv .zeros), (c .before .before .before .before .before .before .before .before .before .before .before .before .before .before .before .before .before .before .before .pre .1 .1 .1 .0, c .before .before .before .before .before .before .before .before .before .before .before .before .before .before .before .before .before .before .before .pre .1 .1 .1 .1))
+decision-at-requires c κs =
+    let a = c .before .before .before .before .before .before .before .before .before .before .before .before .before .before .before .before .before .before .before .args in
+    let l = c .before .before .before .before .before .before .before .before .before .loop in
+    (holds-own (storeOf (a .blocks .now) (a .includes .now) (a .stored)) (l .past) (a .work .now) (l .work) (l .inv .held), (c .before .before .before .before .before .before .before .before .before .before .before .before .before .before .before .before .before .before .before .pre .1 .1 .1 .0, c .before .before .before .before .before .before .before .before .before .before .before .before .before .before .before .before .before .before .before .pre .1 .1 .1 .1))
 
-enum-known-found : tie.Need-enum-known-found Inv-loop μ-loop
-enum-known-found c = search needs
+enum-known-decision : tie.Need-enum-known-decision Inv-loop μ-loop
+enum-known-decision c = search needs
 
 enum-told-2 : tie.Need-enum-told-2 Inv-loop μ-loop
 enum-told-2 c = search needs
 
 same-length : tie.Need-same-length Inv-loop μ-loop
-same-length c = c .before .before .before .before .before .before .before .before .before .before .before .before .before .before .loop .inv .same
+same-length c = c .before .before .before .before .before .before .before .before .before .before .before .before .before .before .before .loop .inv .same
 
 same-length-2 : tie.Need-same-length-2 Inv-loop μ-loop
-same-length-2 c = c .before .before .before .before .decision-at .kept .1 .1 .1 .1 .1 .1 .1 .1 .1 .1 .1 .1 .0 ∙ zeros-length (c .before .before .before .before .before .before .before .before .before .before .before .before .before .before .before .before .before .before .before .before .before .before .before .before .args .work .now) (c .before .before .before .before .before .before .before .before .before .before .before .before .before .before .loop .work) (c .before .before .before .before .before .before .before .before .before .before .before .before .before .before .loop .inv .zeros)
+same-length-2 c =
+    let a = c .before .before .before .before .before .before .before .before .before .before .before .before .before .before .before .before .before .before .before .before .before .before .before .before .before .args in
+    let l = c .before .before .before .before .before .before .before .before .before .before .before .before .before .before .before .loop in
+    c .before .before .before .before .before .decision-at .kept .1 .1 .1 .1 .1 .1 .1 .1 .1 .1 .1 .1 .1 .0 ∙ holds-length (storeOf (a .blocks .now) (a .includes .now) (a .stored)) (l .past) (a .work .now) (l .work) (l .inv .held)
 
 returns : tie.Need-returns Inv-loop μ-loop
 returns c =
-    let a = c .before .before .before .before .before .before .before .before .before .before .before .before .before .before .before .before .before .before .before .before .before .before .before .before .args in
-    let l = c .before .before .before .before .before .before .before .before .before .before .before .before .before .before .loop in
-    (round-two (storeOf (a .blocks .now) (a .includes .now) (a .stored)) (a .stakes .now) (a .floor .0) (a .options) (a .size) (statusesOf (a .memory .now)) (a .round .0) (a .area .now) (a .from) (a .work .now) (l .area) (l .work) (l .first) (l .j) (l .inv) (c .before .before .before .before .before .before .before .before .before .before .before .before .before .loop-test .taken) (c .before .before .before .before .before .before .before .before .before .before .before .before .committer .result) (c .before .before .before .before .before .before .before .before .before .before .before .before .committer .ensures) (c .before .before .before .before .before .before .before .before .before .before .before .elected .result) (c .before .before .before .before .before .before .before .before .before .before .before .elected .ensures) _ (c .before .before .before .before .before .before .before .before .before .leader .given .1) (take (length (l .area) - l .first) (drop (l .first) (l .area))) (tail-is (l .area) (l .first)) (c .before .before .before .before .decision-at .result) (c .before .before .before .before .decision-at .ensures .0) _ (c .enum-told2 .given .1), (tt, zeros-kept (a .work .now) (l .work) (c .before .before .before .before .decision-at .last .1 .1 .1 .1 .1 .1 .1 .1 .1 .1 .1 .1 .0) (l .inv .zeros) (c .before .before .before .before .decision-at .ensures .1)))
+    let a = c .before .before .before .before .before .before .before .before .before .before .before .before .before .before .before .before .before .before .before .before .before .before .before .before .before .args in
+    let l = c .before .before .before .before .before .before .before .before .before .before .before .before .before .before .before .loop in
+    (round-two (storeOf (a .blocks .now) (a .includes .now) (a .stored)) (a .stakes .now) (a .floor .0) (a .options) (a .size) (statusesOf (a .memory .now)) (a .round .0) (a .area .now) (a .from) (a .work .now) (l .area) (l .work) (l .past) (l .first) (l .j) (l .inv) (c .before .before .before .before .before .before .before .before .before .before .before .before .before .before .loop-test .taken) (c .before .before .before .before .before .before .before .before .before .before .before .before .before .committer .result) (c .before .before .before .before .before .before .before .before .before .before .before .before .before .committer .ensures) (c .before .before .before .before .before .before .before .before .before .before .before .before .elected .result) (c .before .before .before .before .before .before .before .before .before .before .before .before .elected .ensures) _ (c .before .before .before .before .before .before .before .before .before .before .leader .given .1) (take (length (l .area) - l .first) (drop (l .first) (l .area))) (tail-is (l .area) (l .first)) (c .before .before .before .before .before .decision-at .result .decision) (c .before .before .before .before .before .decision-at .ensures .0) _ (c .enum-told2 .given .1), (tt, holds-kept (storeOf (a .blocks .now) (a .includes .now) (a .stored)) (l .past) (a .work .now) (l .work) (c .before .before .before .before .before .decision-at .result .past) (c .before .before .before .before .before .decision-at .last .1 .1 .1 .1 .1 .1 .1 .1 .1 .1 .1 .1 .1 .0) (l .inv .held) (c .before .before .before .before .before .decision-at .ensures .1)))
 
 sub-first : tie.Need-sub-first Inv-loop μ-loop
 sub-first c =
-    let a = c .before .before .before .before .before .before .before .before .before .before .before .before .before .before .before .before .before .before .before .before .before .before .before .before .before .args in
-    let l = c .before .before .before .before .before .before .before .before .before .before .before .before .before .before .before .loop in
-    omega (arith, round-room (storeOf (a .blocks .now) (a .includes .now) (a .stored)) (a .stakes .now) (a .floor .0) (a .options) (a .size) (statusesOf (a .memory .now)) (a .round .0) (a .area .now) (a .from) (a .work .now) (l .area) (l .work) (l .first) (l .j) (l .inv) (c .before .before .before .before .before .before .before .before .before .before .before .before .before .before .loop-test .taken) (c .before .before .before .before .before .before .before .before .before .before .before .before .before .committer .result) (c .before .before .before .before .before .before .before .before .before .before .before .before .before .committer .ensures) (c .before .before .before .before .before .before .before .before .before .before .before .before .elected .result) (c .before .before .before .before .before .before .before .before .before .before .before .before .elected .ensures) _ (c .before .before .before .before .before .before .before .before .before .before .leader .given .1))
+    let a = c .before .before .before .before .before .before .before .before .before .before .before .before .before .before .before .before .before .before .before .before .before .before .before .before .before .before .args in
+    let l = c .before .before .before .before .before .before .before .before .before .before .before .before .before .before .before .before .loop in
+    omega (arith, round-room (storeOf (a .blocks .now) (a .includes .now) (a .stored)) (a .stakes .now) (a .floor .0) (a .options) (a .size) (statusesOf (a .memory .now)) (a .round .0) (a .area .now) (a .from) (a .work .now) (l .area) (l .work) (l .past) (l .first) (l .j) (l .inv) (c .before .before .before .before .before .before .before .before .before .before .before .before .before .before .before .loop-test .taken) (c .before .before .before .before .before .before .before .before .before .before .before .before .before .before .committer .result) (c .before .before .before .before .before .before .before .before .before .before .before .before .before .before .committer .ensures) (c .before .before .before .before .before .before .before .before .before .before .before .before .before .elected .result) (c .before .before .before .before .before .before .before .before .before .before .before .before .before .elected .ensures) _ (c .before .before .before .before .before .before .before .before .before .before .before .leader .given .1))
 
 put-status-requires : tie.Need-put-status-requires Inv-loop μ-loop
 put-status-requires c κs = search needs
@@ -98,21 +105,24 @@ loop-less-2 c = search needs
 
 loop-again-2 : tie.Need-loop-again-2 Inv-loop μ-loop
 loop-again-2 c =
-    let a = c .before .before .before .before .before .before .before .before .before .before .before .before .before .before .before .before .before .before .before .before .before .before .before .before .before .before .before .before .before .args in
-    let l = c .before .before .before .before .before .before .before .before .before .before .before .before .before .before .before .before .before .before .before .loop in
-    round-push (storeOf (a .blocks .now) (a .includes .now) (a .stored)) (a .stakes .now) (a .floor .0) (a .options) (a .size) (statusesOf (a .memory .now)) (a .round .0) (a .area .now) (a .from) (a .work .now) (l .area) (l .work) (l .first) (l .j) (l .inv) (c .before .before .before .before .before .before .before .before .before .before .before .before .before .before .before .before .before .before .loop-test .taken) (c .before .before .before .before .before .before .before .before .before .before .before .before .before .before .before .before .before .committer .result) (c .before .before .before .before .before .before .before .before .before .before .before .before .before .before .before .before .before .committer .ensures) (c .before .before .before .before .before .before .before .before .before .before .before .before .before .before .before .before .elected .result) (c .before .before .before .before .before .before .before .before .before .before .before .before .before .before .before .before .elected .ensures) _ (c .before .before .before .before .before .before .before .before .before .before .before .before .before .before .leader .given .1) (take (length (l .area) - l .first) (drop (l .first) (l .area))) (tail-is (l .area) (l .first)) (c .before .before .before .before .before .before .before .before .before .decision-at .result) (c .before .before .before .before .before .before .before .before .before .decision-at .ensures .0) _ (c .before .before .put-status .last .0) (c .before .before .before .before .before .before .before .before .before .decision-at .last .1 .1 .1 .1 .1 .1 .1 .1 .1 .1 .1 .1 .0) (c .before .before .before .before .before .found .given .1) (c .before .before .before .before .before .before .before .before .before .decision-at .ensures .1) (c .before .before .put-status .ensures)
+    let a = c .before .before .before .before .before .before .before .before .before .before .before .before .before .before .before .before .before .before .before .before .before .before .before .before .before .before .before .before .before .before .args in
+    let l = c .before .before .before .before .before .before .before .before .before .before .before .before .before .before .before .before .before .before .before .before .loop in
+    round-push (storeOf (a .blocks .now) (a .includes .now) (a .stored)) (a .stakes .now) (a .floor .0) (a .options) (a .size) (statusesOf (a .memory .now)) (a .round .0) (a .area .now) (a .from) (a .work .now) (l .area) (l .work) (l .past) (l .first) (l .j) (l .inv) (c .before .before .before .before .before .before .before .before .before .before .before .before .before .before .before .before .before .before .before .loop-test .taken) (c .before .before .before .before .before .before .before .before .before .before .before .before .before .before .before .before .before .before .committer .result) (c .before .before .before .before .before .before .before .before .before .before .before .before .before .before .before .before .before .before .committer .ensures) (c .before .before .before .before .before .before .before .before .before .before .before .before .before .before .before .before .before .elected .result) (c .before .before .before .before .before .before .before .before .before .before .before .before .before .before .before .before .before .elected .ensures) _ (c .before .before .before .before .before .before .before .before .before .before .before .before .before .before .before .leader .given .1) (take (length (l .area) - l .first) (drop (l .first) (l .area))) (tail-is (l .area) (l .first)) (c .before .before .before .before .before .before .before .before .before .before .decision-at .result .decision) (c .before .before .before .before .before .before .before .before .before .before .decision-at .ensures .0) _ (c .before .before .put-status .last .0) (c .before .before .before .before .before .before .before .before .before .before .decision-at .last .1 .1 .1 .1 .1 .1 .1 .1 .1 .1 .1 .1 .1 .0) (c .before .before .before .before .before .before .before .before .before .before .decision-at .result .past) (c .before .before .before .before .before .decision .given .1) (c .before .before .before .before .before .before .before .before .before .before .decision-at .ensures .1) (c .before .before .put-status .ensures)
 
 same-length-3 : tie.Need-same-length-3 Inv-loop μ-loop
 same-length-3 c = c .before .loop .inv .same
 
 same-length-4 : tie.Need-same-length-4 Inv-loop μ-loop
-same-length-4 c = zeros-length (c .before .before .before .before .before .before .before .before .before .before .before .args .work .now) (c .before .loop .work) (c .before .loop .inv .zeros)
+same-length-4 c =
+    let a = c .before .before .before .before .before .before .before .before .before .before .before .args in
+    let l = c .before .loop in
+    holds-length (storeOf (a .blocks .now) (a .includes .now) (a .stored)) (l .past) (a .work .now) (l .work) (l .inv .held)
 
 returns-2 : tie.Need-returns-2 Inv-loop μ-loop
 returns-2 c =
     let a = c .before .before .before .before .before .before .before .before .before .before .before .args in
     let l = c .before .loop in
-    (round-done (storeOf (a .blocks .now) (a .includes .now) (a .stored)) (a .stakes .now) (a .floor .0) (a .options) (a .size) (statusesOf (a .memory .now)) (a .round .0) (a .area .now) (a .from) (a .work .now) (l .area) (l .work) (l .first) (l .j) (l .inv) (c .loop-test .left), (round-left (storeOf (a .blocks .now) (a .includes .now) (a .stored)) (a .stakes .now) (a .floor .0) (a .options) (a .size) (statusesOf (a .memory .now)) (a .round .0) (a .area .now) (a .from) (a .work .now) (l .area) (l .work) (l .first) (l .j) (l .inv) (c .loop-test .left), l .inv .zeros))
+    (round-done (storeOf (a .blocks .now) (a .includes .now) (a .stored)) (a .stakes .now) (a .floor .0) (a .options) (a .size) (statusesOf (a .memory .now)) (a .round .0) (a .area .now) (a .from) (a .work .now) (l .area) (l .work) (l .past) (l .first) (l .j) (l .inv) (c .loop-test .left), (round-left (storeOf (a .blocks .now) (a .includes .now) (a .stored)) (a .stakes .now) (a .floor .0) (a .options) (a .size) (statusesOf (a .memory .now)) (a .round .0) (a .area .now) (a .from) (a .work .now) (l .area) (l .work) (l .past) (l .first) (l .j) (l .inv) (c .loop-test .left), l .inv .held))
 
 pub examine-round-spec : {M : Type 1} → statement M
 examine-round-spec =
@@ -134,7 +144,7 @@ examine-round-spec =
     part-decision-at-start
     part-decision-at-end
     decision-at-requires
-    enum-known-found
+    enum-known-decision
     enum-told-2
     same-length
     same-length-2

@@ -1,92 +1,48 @@
--- `examine_rounds` meets its contract. The invariant: the rounds below n make of the statuses so far what all make of none. Assumes nothing.
+-- `examine_rounds` meets its contract: the walk, and zeros afterwards, which stand there already where nothing was marked. Assumes nothing.
+use Prim.Native.Nat.{ℕ}
 use borrow.Author.Needs.{needs}
-use mathlib.Core.Path.{_∙_}
-use native.Mathlib.Omega.{arith}
+use lib.ListN.{length, replicate}
+use mathlib.Core.Path.{ap, _∙_}
 use Rattle.block_store.specs.Store.{storeOf}
-use Rattle.consensus.specs.Statuses.{statusesOf}
-use Rattle.universal_committer.proofs.Walking.{RoundsFrom, rounds-start, rounds-done, rounds-left, rounds-room, rounds-two, rounds-next, zeros-kept, zeros-length, zeros-own}
+use Rattle.universal_committer.proofs.Holding.{holds-zeros}
 use Rattle.universal_committer.proofs.walk.examine_rounds.Statement.{statement}
 use Rattle.universal_committer.proofs.walk.examine_rounds.Tie as tie
 
-abbrev Inv-loop : tie.InvT-loop
-Inv-loop blocks includes stored order stakes floor options size memory places sorted low rounds area₀ work₀ first₀ n₀ area work first n = RoundsFrom (storeOf blocks includes stored) stakes (floor .0) options size (statusesOf memory) (low .0) rounds area₀ work₀ area work first n
+walk-rounds-requires : tie.Need-walk-rounds-requires
+walk-rounds-requires c κs = search needs
 
-abbrev μ-loop : tie.MeasureT-loop
-μ-loop blocks includes stored order stakes floor options size memory places sorted low rounds area₀ work₀ first₀ n₀ area work first n = n
+same-length : tie.Need-same-length
+same-length c = search needs
 
-loop-holds : tie.Need-loop-holds Inv-loop μ-loop
-loop-holds c =
-    let a = c .before .before .before .before .before .before .before .before .args in
-    rounds-start (storeOf (a .blocks .now) (a .includes .now) (a .stored)) (a .stakes .now) (a .floor .0) (a .options) (a .size) (statusesOf (a .memory .now)) (a .low .0) (a .rounds) (a .area .now) (a .work .now) (c .before .before .before .before .before .before .before .before .pre .1 .0 .1) (c .before .before .before .before .before .before .before .before .pre .1 .1 .0)
+same-length-2 : tie.Need-same-length-2
+same-length-2 c = search needs
 
-sub-n : tie.Need-sub-n Inv-loop μ-loop
-sub-n c = search needs
-
-add-t21 : tie.Need-add-t21 Inv-loop μ-loop
-add-t21 c = omega (arith, c .before .before .before .before .before .before .before .before .before .before .before .pre .1 .0 .0, c .before .before .loop .inv .count)
-
-examine-round-requires : tie.Need-examine-round-requires Inv-loop μ-loop
-examine-round-requires c κs =
-    let a = c .before .before .before .before .before .before .before .before .before .before .before .before .before .args in
-    let l = c .before .before .before .before .loop in
-    (c .before .before .before .before .before .before .before .before .before .before .before .before .before .pre .0, ((l .inv .within, rounds-room (storeOf (a .blocks .now) (a .includes .now) (a .stored)) (a .stakes .now) (a .floor .0) (a .options) (a .size) (statusesOf (a .memory .now)) (a .low .0) (a .rounds) (a .area .now) (a .work .now) (l .area) (l .work) (l .first) (l .n) (l .inv) (c .before .before .before .loop-test .taken)), (zeros-own (a .work .now) (l .work) (l .inv .zeros), (c .before .before .before .before .before .before .before .before .before .before .before .before .before .pre .1 .1 .1 .0, c .before .before .before .before .before .before .before .before .before .before .before .before .before .pre .1 .1 .1 .1))))
-
-enum-known-found : tie.Need-enum-known-found Inv-loop μ-loop
-enum-known-found c = search needs
-
-loop-less : tie.Need-loop-less Inv-loop μ-loop
-loop-less c = search needs
-
-loop-again : tie.Need-loop-again Inv-loop μ-loop
-loop-again c =
-    let a = c .before .before .before .before .before .before .before .before .before .before .before .before .before .before .before .before .before .before .before .before .before .args in
-    let l = c .before .before .before .before .before .before .before .before .before .before .before .before .loop in
-    rounds-next (storeOf (a .blocks .now) (a .includes .now) (a .stored)) (a .stakes .now) (a .floor .0) (a .options) (a .size) (statusesOf (a .memory .now)) (a .low .0) (a .rounds) (a .area .now) (a .work .now) (l .area) (l .work) (l .first) (l .n) (l .inv) (c .before .before .before .before .before .before .before .before .before .before .before .loop-test .taken) (c .before .before .before .before .before .before .before .examine-round .result) (c .before .before .before .before .before .before .before .examine-round .last .1 .1 .1 .1 .1 .1 .1 .1 .1 .1 .1 .1 .0) (c .before .before .before .before .before .before .before .examine-round .ensures .0) _ (c .before .before .before .before .before .before .before .examine-round .last .1 .1 .1 .1 .1 .1 .1 .1 .1 .1 .1 .1 .1 .1 .0) (c .before .found .given .1) (c .before .before .before .before .before .before .before .examine-round .ensures .1 .0) (c .before .before .before .before .before .before .before .examine-round .kept .1 .1 .1 .1 .1 .1 .1 .1 .1 .1 .1 .1 .0) (c .before .before .before .before .before .before .before .examine-round .ensures .1 .1)
-
-enum-told : tie.Need-enum-told Inv-loop μ-loop
-enum-told c = search needs
-
-same-length : tie.Need-same-length Inv-loop μ-loop
-same-length c = c .before .before .before .before .before .before .examine-round .kept .1 .1 .1 .1 .1 .1 .1 .1 .1 .1 .1 .1 .0 ∙ c .before .before .before .before .before .before .before .before .before .before .before .loop .inv .same
-
-same-length-2 : tie.Need-same-length-2 Inv-loop μ-loop
-same-length-2 c = c .before .before .before .before .before .before .examine-round .kept .1 .1 .1 .1 .1 .1 .1 .1 .1 .1 .1 .1 .1 .1 .0 ∙ zeros-length (c .before .before .before .before .before .before .before .before .before .before .before .before .before .before .before .before .before .before .before .before .args .work .now) (c .before .before .before .before .before .before .before .before .before .before .before .loop .work) (c .before .before .before .before .before .before .before .before .before .before .before .loop .inv .zeros)
-
-returns : tie.Need-returns Inv-loop μ-loop
+returns : tie.Need-returns
 returns c =
-    let a = c .before .before .before .before .before .before .before .before .before .before .before .before .before .before .before .before .before .before .before .before .args in
-    let l = c .before .before .before .before .before .before .before .before .before .before .before .loop in
-    (rounds-two (storeOf (a .blocks .now) (a .includes .now) (a .stored)) (a .stakes .now) (a .floor .0) (a .options) (a .size) (statusesOf (a .memory .now)) (a .low .0) (a .rounds) (a .area .now) (a .work .now) (l .area) (l .work) (l .first) (l .n) (l .inv) (c .before .before .before .before .before .before .before .before .before .before .loop-test .taken) (c .before .before .before .before .before .before .examine-round .result) (c .before .before .before .before .before .before .examine-round .last .1 .1 .1 .1 .1 .1 .1 .1 .1 .1 .1 .1 .0) (c .before .before .before .before .before .before .examine-round .ensures .0) (c .enum-told .given .1), (tt, zeros-kept (a .work .now) (l .work) (c .before .before .before .before .before .before .examine-round .last .1 .1 .1 .1 .1 .1 .1 .1 .1 .1 .1 .1 .1 .1 .0) (l .inv .zeros) (c .before .before .before .before .before .before .examine-round .ensures .1 .1)))
+    let a = c .before .before .before .before .before .before .before .before .before .before .before .before .before .before .before .before .before .before .args in
+    (c .before .before .before .before .before .before .before .walk-rounds .ensures .0, (c .before .before .before .before .before .before .before .walk-rounds .ensures .1 .0, holds-zeros (storeOf (a .blocks .now) (a .includes .now) (a .stored)) (c .before .before .before .before .before .before .before .walk-rounds .result .past) (length (a .work .now)) (c .before .before .before .before .before .before .before .walk-rounds .last .1 .1 .1 .1 .1 .1 .1 .1 .1 .1 .1 .1 .1 .1 .0) (c .before .before .before .before .before .before .before .walk-rounds .ensures .1 .1) (c .if1 .taken)))
 
-same-length-3 : tie.Need-same-length-3 Inv-loop μ-loop
-same-length-3 c = c .before .loop .inv .same
+clear-bytes-requires : tie.Need-clear-bytes-requires
+clear-bytes-requires c κs = search needs
 
-same-length-4 : tie.Need-same-length-4 Inv-loop μ-loop
-same-length-4 c = zeros-length (c .before .before .before .before .before .before .before .before .before .before .args .work .now) (c .before .loop .work) (c .before .loop .inv .zeros)
+same-length-3 : tie.Need-same-length-3
+same-length-3 c = search needs
 
-returns-2 : tie.Need-returns-2 Inv-loop μ-loop
-returns-2 c =
-    let a = c .before .before .before .before .before .before .before .before .before .before .args in
-    let l = c .before .loop in
-    (rounds-done (storeOf (a .blocks .now) (a .includes .now) (a .stored)) (a .stakes .now) (a .floor .0) (a .options) (a .size) (statusesOf (a .memory .now)) (a .low .0) (a .rounds) (a .area .now) (a .work .now) (l .area) (l .work) (l .first) (l .n) (l .inv) (c .loop-test .left), (rounds-left (storeOf (a .blocks .now) (a .includes .now) (a .stored)) (a .stakes .now) (a .floor .0) (a .options) (a .size) (statusesOf (a .memory .now)) (a .low .0) (a .rounds) (a .area .now) (a .work .now) (l .area) (l .work) (l .first) (l .n) (l .inv) (c .loop-test .left), l .inv .zeros))
+same-length-4 : tie.Need-same-length-4
+same-length-4 c = search needs
+
+returns-2 : tie.Need-returns-2
+returns-2 c = (c .before .before .before .before .before .before .before .before .before .before .before .walk-rounds .ensures .0, (c .before .before .before .before .before .before .before .before .before .before .before .walk-rounds .ensures .1 .0, c .before .before .clear-bytes .ensures ∙ ap (λ (n : ℕ). replicate n 0) (c .before .before .before .before .before .before .before .before .before .before .before .walk-rounds .kept .1 .1 .1 .1 .1 .1 .1 .1 .1 .1 .1 .1 .1 .1 .0)))
 
 pub examine-rounds-spec : {M : Type 1} → statement M
 examine-rounds-spec =
     tie.close
     (tie.spec
-    Inv-loop
-    μ-loop
-    loop-holds
-    sub-n
-    add-t21
-    examine-round-requires
-    enum-known-found
-    loop-less
-    loop-again
-    enum-told
+    walk-rounds-requires
     same-length
     same-length-2
     returns
+    clear-bytes-requires
     same-length-3
     same-length-4
     returns-2)

@@ -1,9 +1,12 @@
--- `ruled` meets its contract: the direct rule's word, or the indirect one's. Assumes nothing.
+-- `ruled` meets its contract: the direct rule's word, or the indirect one's, without an anchor or in its past. Assumes nothing.
 use borrow.Author.Needs.{needs}
 use lib.ListN.{length}
+use native.Mathlib.Omega.{arith}
+use Rattle.base_committer.proofs.Decisions.{indirect-none, indirect-found}
 use Rattle.block_store.specs.Store.{storeOf}
 use Rattle.consensus.specs.Statuses.{statusesOf}
 use Rattle.linked.specs.Linked.{linkedIn}
+use Rattle.universal_committer.proofs.Holding.{holds-for}
 use Rattle.universal_committer.proofs.Walking.{ruled-direct, ruled-indirect}
 use Rattle.universal_committer.proofs.walk.ruled.Statement.{statement}
 use Rattle.universal_committer.proofs.walk.ruled.Tie as tie
@@ -20,17 +23,41 @@ returns c =
     let s = storeOf (a .blocks .now) (a .includes .now) (a .stored) in
     (ruled-direct s (a .order .now) (c .before .before .before .before .before .before .before .before .before .before .before .pre .1) (linkedIn s (length (a .work .now))) (a .stakes .now) (a .floor .0) (a .base) (a .place .authority .0) (a .place .round .0) (statusesOf (a .later .now)) (c .before .before .direct-decision .result) (c .before .before .direct-decision .ensures) (c .before .is-ruled .result) (c .before .is-ruled .ensures) (c .if1 .taken), c .before .before .before .before .before .before .before .before .before .before .before .pre .0)
 
-indirect-decision-requires : tie.Need-indirect-decision-requires
-indirect-decision-requires c κs = search needs
+anchor-of-requires : tie.Need-anchor-of-requires
+anchor-of-requires c κs = search needs
+
+enum-known-found : tie.Need-enum-known-found
+enum-known-found c = search needs
+
+enum-told : tie.Need-enum-told
+enum-told c = search needs
+
+returns-2 : tie.Need-returns-2
+returns-2 c =
+    let a = c .before .before .before .before .before .before .before .before .before .before .before .before .before .before .args in
+    let s = storeOf (a .blocks .now) (a .includes .now) (a .stored) in
+    let e = indirect-none s (a .order .now) (length (a .work .now)) (a .stakes .now) (a .floor .0) (a .base) (a .place .authority .0) (a .place .round .0) (statusesOf (a .later .now)) (c .before .before .anchor-of .result) (c .before .before .anchor-of .ensures) (c .enum-told .given .1) in
+    (ruled-indirect s (a .order .now) (c .before .before .before .before .before .before .before .before .before .before .before .before .before .before .pre .1) (linkedIn s (length (a .work .now))) (a .stakes .now) (a .floor .0) (a .base) (a .place .authority .0) (a .place .round .0) (statusesOf (a .later .now)) (c .before .before .before .before .before .direct-decision .result) (c .before .before .before .before .before .direct-decision .ensures) (c .before .before .before .before .is-ruled .result) (c .before .before .before .before .is-ruled .ensures) _ (c .before .before .before .if1 .left) e, c .before .before .before .before .before .before .before .before .before .before .before .before .before .before .pre .0)
+
+deciding-round-requires : tie.Need-deciding-round-requires
+deciding-round-requires c κs = search needs
+
+mark-past-requires : tie.Need-mark-past-requires
+mark-past-requires c κs = search needs
+
+decision-by-marks-requires : tie.Need-decision-by-marks-requires
+decision-by-marks-requires c κs = search needs
 
 same-length : tie.Need-same-length
 same-length c = search needs
 
-returns-2 : tie.Need-returns-2
-returns-2 c =
-    let a = c .before .before .before .before .before .before .before .before .before .before .before .before .before .before .before .args in
+returns-3 : tie.Need-returns-3
+returns-3 c =
+    let a = c .before .before .before .before .before .before .before .before .before .before .before .before .before .before .before .before .before .before .before .before .before .before .args in
     let s = storeOf (a .blocks .now) (a .includes .now) (a .stored) in
-    (ruled-indirect s (a .order .now) (c .before .before .before .before .before .before .before .before .before .before .before .before .before .before .before .pre .1) (linkedIn s (length (a .work .now))) (a .stakes .now) (a .floor .0) (a .base) (a .place .authority .0) (a .place .round .0) (statusesOf (a .later .now)) (c .before .before .before .before .before .before .direct-decision .result) (c .before .before .before .before .before .before .direct-decision .ensures) (c .before .before .before .before .before .is-ruled .result) (c .before .before .before .before .before .is-ruled .ensures) (c .before .before .indirect-decision .result) (c .before .before .before .before .if1 .left) (c .before .before .indirect-decision .ensures .0), c .before .before .indirect-decision .ensures .1)
+    let r = c .before .before .before .before .mark-past .result in
+    let e = indirect-found s (a .order .now) (length (a .work .now)) (a .stakes .now) (a .floor .0) (a .base) (a .place .authority .0) (a .place .round .0) (statusesOf (a .later .now)) (c .before .before .before .before .before .before .before .before .before .before .anchor-of .result) (c .before .before .before .before .before .before .before .before .before .before .anchor-of .ensures) _ (r .low .0) (c .before .before .before .before .mark-past .last .1 .1 .1 .1 .1 .1 .1 .0) (c .decision-by-marks .result) (c .before .before .before .before .before .before .before .before .found .given .1) (omega (arith, c .before .before .before .before .mark-past .ensures .0 .1, c .before .before .before .before .before .before .deciding-round .ensures)) (holds-for s r _ (length (a .work .now)) (c .before .before .before .before .mark-past .last .1 .1 .1 .1 .1 .1 .1 .0) (c .before .before .before .before .mark-past .ensures .0 .0) (c .before .before .before .before .mark-past .ensures .1)) (c .decision-by-marks .ensures) in
+    (ruled-indirect s (a .order .now) (c .before .before .before .before .before .before .before .before .before .before .before .before .before .before .before .before .before .before .before .before .before .before .pre .1) (linkedIn s (length (a .work .now))) (a .stakes .now) (a .floor .0) (a .base) (a .place .authority .0) (a .place .round .0) (statusesOf (a .later .now)) (c .before .before .before .before .before .before .before .before .before .before .before .before .before .direct-decision .result) (c .before .before .before .before .before .before .before .before .before .before .before .before .before .direct-decision .ensures) (c .before .before .before .before .before .before .before .before .before .before .before .before .is-ruled .result) (c .before .before .before .before .before .before .before .before .before .before .before .before .is-ruled .ensures) (c .decision-by-marks .result) (c .before .before .before .before .before .before .before .before .before .before .before .if1 .left) e, c .before .before .before .before .mark-past .ensures .1)
 
 pub ruled-spec : {M : Type 1} → statement M
 ruled-spec =
@@ -39,6 +66,12 @@ ruled-spec =
     direct-decision-requires
     is-ruled-requires
     returns
-    indirect-decision-requires
+    anchor-of-requires
+    enum-known-found
+    enum-told
+    returns-2
+    deciding-round-requires
+    mark-past-requires
+    decision-by-marks-requires
     same-length
-    returns-2)
+    returns-3)
