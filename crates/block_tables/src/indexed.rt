@@ -24,7 +24,7 @@ pub fn row_in(blocks: &[u64], order: &[u16], sorted: usize, n: usize, x: BlockRe
 }
 
 // Whether each reference of the list is that of one of the n rows.
-pub fn all_in(blocks: &[u64], order: &[u16], sorted: usize, n: usize, list: &[u64]) -> bool
+pub(crate) fn all_in(blocks: &[u64], order: &[u16], sorted: usize, n: usize, list: &[u64]) -> bool
     ensures { λ r. ⌜ r ≡ allFound (lookedUp (now (blocks .entry)) (now (order .entry)) sorted n) n (refsIn (now (list .entry))) ⌝ }
 {
     let m = list.len() / REFERENCE_WORDS;

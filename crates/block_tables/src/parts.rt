@@ -30,7 +30,7 @@ pub fn reference_in(list: &[u64], k: usize) -> BlockReference
 }
 
 // The first of the rows from `from` up to n that has the reference; where none has, n, or `from` if that is more.
-pub fn row_from(blocks: &[u64], from: usize, n: usize, x: BlockReference) -> usize
+pub(crate) fn row_from(blocks: &[u64], from: usize, n: usize, x: BlockReference) -> usize
     ensures { λ r. ⌜ r ≡ rowFrom (now (blocks .entry)) from n x ⌝ }
 {
     let mut i = from;
@@ -45,7 +45,7 @@ pub fn row_from(blocks: &[u64], from: usize, n: usize, x: BlockReference) -> usi
 }
 
 // Whether the reference is in the list.
-pub fn names(list: &[u64], x: BlockReference) -> bool
+pub(crate) fn names(list: &[u64], x: BlockReference) -> bool
     ensures { λ r. ⌜ r ≡ among (refsIn (now (list .entry))) x ⌝ }
 {
     let n = list.len() / REFERENCE_WORDS;

@@ -17,6 +17,7 @@ use Rattle.block_tables.specs.Words.{refsOfRows, storedIn, pendingIn}
 use Rattle.block_tables.specs.declared.Counts.{Counts}
 use Rattle.index.specs.Keys.{referenceKey}
 use Rattle.index.specs.Search.{Indexed}
+use Rattle.offers.proofs.Choosing.{chosen-length}
 use Rattle.offers.proofs.Climb.{Distinct, rowOf-is, rowOf-at, rowOf-append, firstAt-rowOf, has-rowOf}
 use Rattle.offers.specs.Blocks.{Block, noBlock, refs, has, held}
 use Rattle.offers.specs.Climb.{rowOf, reach}
@@ -45,11 +46,6 @@ rowOf-behind (b ∷ s) t r h = go (tested (same (b .ref) r)) (λ k. rowOf-behind
     go (inr e) below = rw e (omega (arith, below (omega (arith, rw e at h))))
 
 module _ (p : List Block) where
-  length-chosen : (l : List ℕ) → length (chosen p l) ≡ length l
-  unfolding chosen
-  length-chosen [] = refl
-  length-chosen (row ∷ l) = ap suc (length-chosen l)
-
   module _ (distinct : Distinct p) (r : BlockReference) where
     -- a block has the reference if its row is the reference's
     row-test : (row : ℕ) → row < length p → same (getD p row noBlock .ref) r ≡ eqb row (rowOf p r)
@@ -133,7 +129,7 @@ module _ (blocks includes waiting named : List ℕ) (c : Counts) (order others l
           ∙ omega (arith, placed-row (rowOf p r), length-s, chosen-row p (λ x. omega (arith, once x)) r l inside, rowOf-behind s (chosen p l) r h)
 
   length-after : length (s ++ chosen p l) ≡ c .stored + length l
-  length-after = omega (arith, length-append s (chosen p l), length-s, length-chosen p l)
+  length-after = omega (arith, length-append s (chosen p l), length-s, chosen-length p l)
 
   found-held : (xs : List BlockReference) → allFound (plannedRow blocks order (c .stored) waiting others (c .pending) place (c .stored + length l)) (c .stored + length l) xs ≡ held (s ++ chosen p l) xs
   unfolding allFound held
