@@ -29,7 +29,7 @@ ghost use Rattle.consensus.specs.Statuses.{statusesOf};
 ghost use Rattle.linked.specs.Linked.{linkedIn};
 ghost use Rattle.base_committer.specs.Waves.{waveNumber, decisionRound, anchorRound, reportedElected, electedReport};
 ghost use Rattle.base_committer.specs.Only.{reportedDecision};
-ghost use Rattle.base_committer.specs.Decide.{anchorOf, decideByMarks, directReport, indirectReport};
+ghost use Rattle.base_committer.specs.Decide.{decideByMarks, directReport, indirectReport};
 
 // The leader of a round in a committee of that size: nobody, where the round isn't its wave's first.
 pub fn elected(options: BaseCommitterOptions, size: u64, round: RoundNumber) -> Elected
@@ -93,11 +93,11 @@ pub fn direct_decision(
     commit_or(found, position, LeaderStatus::Undecided(position))
 }
 
-// The block in whose past a leader of that round is decided, by the statuses of later leaders.
-pub fn anchor_of(options: BaseCommitterOptions, round: RoundNumber, statuses: &[u64]) -> Anchor
-    ensures { λ r. ⌜ r ≡ anchorOf (anchorRound options (round .0)) (statusesOf (now (statuses .entry))) ⌝ }
+// The first round whose leaders can be anchors of a leader of that round.
+pub fn anchoring_round(options: BaseCommitterOptions, round: RoundNumber) -> RoundNumber
+    ensures { λ r. ⌜ r .0 ≡ anchorRound options (round .0) ⌝ }
 {
-    find_anchor(statuses, anchor_round(options, round))
+    anchor_round(options, round)
 }
 
 // The round whose blocks can certify a leader block of that round.
@@ -158,7 +158,7 @@ pub(crate) fn indirect_decision(
     ensures { λ r. ⌜ reportedDecision r ≡ indirectReport (storeOf (now (blocks .entry)) (now (includes .entry)) stored) (rowsOfRound (now (blocks .entry)) (now (order .entry)) stored) (linkedIn (storeOf (now (blocks .entry)) (now (includes .entry)) stored) (length (now (work .entry)))) (now (stakes .entry)) (floor .0) options (leader .0) (round .0) (statusesOf (now (statuses .entry))) ⌝ }
     ensures zeroed { λ _. ⌜ now (work .exit) ≡ replicate (length (now (work .entry))) 0 ⌝ }
 {
-    let found = anchor_of(options, round, statuses);
+    let found = find_anchor(statuses, anchor_round(options, round));
     let Anchor::At(anchor) = found else {
         clear_bytes(work);
         return Decision::Decided(LeaderStatus::Undecided(AuthorRound {

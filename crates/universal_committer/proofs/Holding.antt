@@ -22,9 +22,6 @@ module _ (s : Store) (past : Past) (work₀ work : List ℕ) where
   pub holds-length : Holds s past (length work₀) work → length work ≡ length work₀
   holds-length e = ap length e ∙ marks-length s (length work₀) (past .row) (past .low .0)
 
-  pub holds-own : Holds s past (length work₀) work → Holds s past (length work) work
-  holds-own e = e ∙ ap (λ (n : ℕ). linkedMarks s n (past .row) (past .low .0)) (sym (holds-length e))
-
   pub holds-kept : (past′ : Past) (work′ : List ℕ) → Holds s past (length work₀) work → Holds s past′ (length work) work′ → Holds s past′ (length work₀) work′
   holds-kept past′ work′ e f = f ∙ ap (λ (n : ℕ). linkedMarks s n (past′ .row) (past′ .low .0)) (holds-length e)
 

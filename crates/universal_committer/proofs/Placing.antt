@@ -12,15 +12,17 @@ use Rattle.base_committer.specs.declared.only.Decision.{Decision}
 use Rattle.base_committer.specs.declared.only.Decision.the-variants.{Decided, Refused}
 use Rattle.base_committer.specs.declared.options.BaseCommitterOptions.{BaseCommitterOptions}
 use Rattle.block_store.specs.Store.{Store}
-use Rattle.commit_walk.proofs.Memory.{of-is}
-use Rattle.commit_walk.specs.Memory.{isOf}
+use Rattle.commit_walk.proofs.Memory.{of-round, of-is, recalled-of}
+use Rattle.commit_walk.specs.Memory.{isOf, recall}
 use Rattle.commit_walk.specs.Walk.{Seat, is}
-use Rattle.consensus.specs.Statuses.{at}
+use Rattle.commit_walk.specs.declared.parts.Recalled.{Recalled}
+use Rattle.commit_walk.specs.declared.parts.Recalled.the-variants.{Known, Unknown}
+use Rattle.consensus.specs.Statuses.{at, positionOf}
 use Rattle.consensus.specs.declared.status.LeaderStatus.{LeaderStatus}
 use Rattle.consensus.specs.declared.status.LeaderStatus.the-variants.{Commit, Skip, Undecided}
 use Rattle.support.specs.Quorums.{keep, roundRows}
 use Rattle.universal_committer.specs.Options.{committerOf}
-use Rattle.universal_committer.specs.Rules.{isRuled, ruledOf, ruledBy, rulesOf}
+use Rattle.universal_committer.specs.Rules.{isRuled, ruledOf, ruledBy, rulesOf, recalledOr, foundOf}
 use Rattle.universal_committer.specs.declared.options.UniversalCommitterOptions.{UniversalCommitterOptions}
 
 -- a decision is of that position, or refused
@@ -74,3 +76,15 @@ unfolding rulesOf
 placed s linked stakes floor o p xs x e =
     by-placed (p .authority) (p .round) (ruledOf s linked stakes floor (committerOf o (p .committer)) (p .authority) (p .round) xs) x
     (ruled-placed s linked stakes floor (committerOf o (p .committer)) (p .authority) (p .round) xs) e
+
+-- what is recalled, or else ruled, is of the leader's round
+pub found-round : (s : Store) (linked : ℕ → ℕ → Bool) (stakes : List ℕ) (floor : ℕ) (memory : List LeaderStatus) (b : BaseCommitterOptions) (a r : ℕ) (later : List LeaderStatus) (d : Decision) (x : LeaderStatus)
+    → d ≡ foundOf s linked stakes floor memory b a r later → d ≡ Decided x → positionOf x .round .0 ≡ r
+unfolding foundOf
+found-round s linked stakes floor memory b a r later d x ed q = of-round a r x (go (recall a r memory) refl (sym q ∙ ed))
+  where
+    go : (k : Recalled) → recall a r memory ≡ k → Decided x ≡ recalledOr k (ruledOf s linked stakes floor b a r later) → isOf a r x ≡ true
+    go (Known y) ek e =
+        let z : y ≡ x = cc in
+        recalled-of a r memory x (ek ∙ ap Known z)
+    go Unknown ek e = by-placed a r (ruledOf s linked stakes floor b a r later) x (ruled-placed s linked stakes floor b a r later) (ap ruledBy (sym e))

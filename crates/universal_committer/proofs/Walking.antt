@@ -13,7 +13,8 @@ use Rattle.base_committer.proofs.Elections.{reportedElected-one}
 use Rattle.base_committer.proofs.Rows.{direct-same, indirect-same, indexed-rows}
 use Rattle.base_committer.specs.Decide.{tryDirectDecide, tryIndirectDecide, directReport, indirectReport}
 use Rattle.base_committer.specs.Only.{reportedDecision}
-use Rattle.base_committer.specs.Waves.{electLeader, reportedElected, electedReport}
+use Rattle.base_committer.specs.Waves.{anchorRound, electLeader, reportedElected, electedReport}
+use Rattle.base_committer.specs.declared.indirect.Anchor.the-variants.{Nothing}
 use Rattle.base_committer.specs.declared.only.Decision.{Decision}
 use Rattle.base_committer.specs.declared.only.Decision.the-variants.{Decided, Refused}
 use Rattle.base_committer.specs.declared.options.BaseCommitterOptions.{BaseCommitterOptions}
@@ -37,12 +38,15 @@ use Rattle.support.specs.Quorums.{roundRows}
 use Rattle.types.specs.declared.AuthorityIndex.{AuthorityIndex}
 use Rattle.types.specs.declared.refusal.Refusal.{Refusal}
 use Rattle.universal_committer.proofs.Holding.{holds-length, holds-kept}
+use Rattle.universal_committer.proofs.Placing.{found-round}
+use Rattle.universal_committer.proofs.Sighting.{carries-none, carries-as, carries-lower, carries-more, anchors-are, anchors-fall}
 use Rattle.universal_committer.specs.Marked.{Holds}
 use Rattle.universal_committer.specs.Options.{committers, committerOf}
 use Rattle.universal_committer.specs.Rules.{isRuled, ruledOf, ruledBy, rulesOf, recalledOr, foundOf, walkOf, Left}
 use Rattle.universal_committer.specs.Seats.{electedBy, seatFor, seatsBelow, seatsOver}
+use Rattle.universal_committer.specs.Sighted.{sightOf, moreOf, anchorsFrom, Carries, CarriedOn}
 use Rattle.universal_committer.specs.declared.options.UniversalCommitterOptions.{UniversalCommitterOptions}
-use Rattle.universal_committer.specs.declared.past.Past.{Past}
+use Rattle.universal_committer.specs.declared.walk.Carried.{Carried}
 use Rattle.universal_committer.specs.declared.walk.Walked.{Walked}
 use Rattle.universal_committer.specs.declared.walk.Walked.the-variants as walked
 
@@ -110,36 +114,39 @@ examine-more rules memory p ps xs = refl
 
 -- ---- a round
 pub record RoundFrom (s : Store) (stakes : List ℕ) (floor : ℕ) (o : UniversalCommitterOptions) (size : ℕ) (memory : List LeaderStatus) (round : ℕ) (area₀ : List ℕ) (from : ℕ)
-    (work₀ area work : List ℕ) (past : Past) (first j : ℕ) : Type 0 where
+    (work₀ area work : List ℕ) (g : Carried) (first j : ℕ) : Type 0 where
   pub within : first ≤ length area
   pub same : length area ≡ length area₀
-  pub held : Holds s past (length work₀) work
+  pub carried : Carries s round (anchorsFrom o round) g (length work₀) work (statusesOf (drop first area))
   pub left : first + length (seatsBelow o size round (committers o)) * statusWords ≡ from + length (seatsBelow o size round j) * statusWords
   pub room : length (seatsBelow o size round j) * statusWords ≤ first
   pub walked : examine (rulesOf s (linkedIn s (length work₀)) stakes floor o) memory (seatsBelow o size round j) (statusesOf (drop first area))
       ≡ examine (rulesOf s (linkedIn s (length work₀)) stakes floor o) memory (seatsBelow o size round (committers o)) (statusesOf (drop from area₀))
 
 pub round-start : (s : Store) (stakes : List ℕ) (floor : ℕ) (o : UniversalCommitterOptions) (size : ℕ) (memory : List LeaderStatus) (round : ℕ) (area : List ℕ) (from : ℕ)
-    (work : List ℕ) (past : Past) (j : ℕ) → from ≤ length area → length (seatsBelow o size round (committers o)) * statusWords ≤ from → Holds s past (length work) work → j ≡ committers o
-    → RoundFrom s stakes floor o size memory round area from work area work past from j
-round-start s stakes floor o size memory round area from work past j h k z e =
+    (work : List ℕ) (g : Carried) (j : ℕ) → from ≤ length area → length (seatsBelow o size round (committers o)) * statusWords ≤ from → Carries s round (anchorsFrom o round) g (length work) work (statusesOf (drop from area)) → j ≡ committers o
+    → RoundFrom s stakes floor o size memory round area from work area work g from j
+round-start s stakes floor o size memory round area from work g j h k z e =
     let n : length (seatsBelow o size round j) ≡ length (seatsBelow o size round (committers o)) = ap (λ (m : ℕ). length (seatsBelow o size round m)) e in
     record {
       within = h;
       same = refl;
-      held = z;
+      carried = z;
       left = omega arith;
       room = omega arith;
       walked = ap (λ (m : ℕ). examine (rulesOf s (linkedIn s (length work)) stakes floor o) memory (seatsBelow o size round m) (statusesOf (drop from area))) e;
     }
 
 module _ (s : Store) (stakes : List ℕ) (floor : ℕ) (o : UniversalCommitterOptions) (size : ℕ) (memory : List LeaderStatus) (round : ℕ) (area₀ : List ℕ) (from : ℕ)
-    (work₀ area work : List ℕ) (past : Past) (first j : ℕ) (inv : RoundFrom s stakes floor o size memory round area₀ from work₀ area work past first j) where
+    (work₀ area work : List ℕ) (g : Carried) (first j : ℕ) (inv : RoundFrom s stakes floor o size memory round area₀ from work₀ area work g first j) where
   abbrev rules : Seat → List LeaderStatus → Ruled
   rules = rulesOf s (linkedIn s (length work₀)) stakes floor o
 
   abbrev whole : Examined
   whole = examine rules memory (seatsBelow o size round (committers o)) (statusesOf (drop from area₀))
+
+  same-room : length work ≡ length work₀
+  same-room = holds-length s (g .past) work₀ work (inv .carried .held)
 
   pub round-done : j ≤ 0 → seen (statusesOf (drop first area)) ≡ whole
   unfolding examine seatsBelow
@@ -157,17 +164,20 @@ module _ (s : Store) (stakes : List ℕ) (floor : ℕ) (o : UniversalCommitterOp
     unfolding electedBy
     elected-here = reportedElected-one e (electLeader b size round) ee ∙ ap (λ (x : BaseCommitterOptions). electLeader x size round) eb
 
+    anchors-here : anchorRound b round ≡ anchorsFrom o round
+    anchors-here = ap (λ (x : BaseCommitterOptions). anchorRound x round) eb ∙ anchors-are o (j - 1) round
+
     seats-here : seatsBelow o size round j ≡ seatFor (j - 1) round e ++ seatsBelow o size round (j - 1)
     seats-here = ap (seatsBelow o size round) (back j h) ∙ seats-more o size round (j - 1) ∙ ap (λ (x : Elected). seatFor (j - 1) round x ++ seatsBelow o size round (j - 1)) (sym elected-here)
 
-    pub round-nobody : e ≡ Nobody → RoundFrom s stakes floor o size memory round area₀ from work₀ area work past first (j - 1)
+    pub round-nobody : e ≡ Nobody → RoundFrom s stakes floor o size memory round area₀ from work₀ area work g first (j - 1)
     round-nobody q =
         let z : seatsBelow o size round j ≡ seatsBelow o size round (j - 1) = seats-here ∙ ap (λ (x : Elected). seatFor (j - 1) round x ++ seatsBelow o size round (j - 1)) q in
         let n : length (seatsBelow o size round j) ≡ length (seatsBelow o size round (j - 1)) = ap length z in
         record {
           within = inv .within;
           same = inv .same;
-          held = inv .held;
+          carried = inv .carried;
           left = omega (arith, inv .left);
           room = omega (arith, inv .room);
           walked = sym (ap (λ (ps : List Seat). examine rules memory ps (statusesOf (drop first area))) z) ∙ inv .walked;
@@ -180,6 +190,12 @@ module _ (s : Store) (stakes : List ℕ) (floor : ℕ) (o : UniversalCommitterOp
       seats-one : seatsBelow o size round j ≡ seat ∷ seatsBelow o size round (j - 1)
       seats-one = seats-here ∙ ap (λ (x : Elected). seatFor (j - 1) round x ++ seatsBelow o size round (j - 1)) ea
 
+      -- what is left to that leader
+      pub round-carries : (later : List ℕ) → later ≡ drop first area → Carries s round (anchorRound b round) g (length work) work (statusesOf later)
+      round-carries later el =
+          carries-as s round (anchorsFrom o round) (anchorRound b round) g (length work₀) (length work) work (statusesOf (drop first area)) (statusesOf later)
+          anchors-here same-room (ap statusesOf el) (inv .carried)
+
       pub round-room : statusWords ≤ first
       round-room = omega (arith, inv .room, ap length seats-one)
 
@@ -188,7 +204,7 @@ module _ (s : Store) (stakes : List ℕ) (floor : ℕ) (o : UniversalCommitterOp
         found-here : foundOr (recall (a .0) round memory) (rules seat (statusesOf (drop first area))) ≡ ruledBy d
         unfolding rulesOf foundOf
         found-here =
-            let k : length work ≡ length work₀ = holds-length s past work₀ work (inv .held) in
+            let k : length work ≡ length work₀ = same-room in
             let f : d ≡ foundOf s (linkedIn s (length work₀)) stakes floor memory (committerOf o (j - 1)) (a .0) round (statusesOf (drop first area)) =
             ed ∙ ap (λ (n : ℕ). foundOf s (linkedIn s n) stakes floor memory b (a .0) round (statusesOf later)) k
             ∙ ap (λ (l : List ℕ). foundOf s (linkedIn s (length work₀)) stakes floor memory b (a .0) round (statusesOf l)) el
@@ -205,19 +221,23 @@ module _ (s : Store) (stakes : List ℕ) (floor : ℕ) (o : UniversalCommitterOp
         pub round-two : (n : Refusal) → d ≡ Refused n → two ≡ whole
         round-two n q = with-found (Refused n) q
 
-        pub round-push : (x : LeaderStatus) (area′ work′ : List ℕ) (past′ : Past) → d ≡ Decided x → Holds s past′ (length work) work′ → area′ ≡ putOf area (first - statusWords) x
-            → RoundFrom s stakes floor o size memory round area₀ from work₀ area′ work′ past′ (first - statusWords) (j - 1)
-        round-push x area′ work′ past′ q ew e′ =
+        pub round-push : (x : LeaderStatus) (area′ work′ : List ℕ) (g₁ g′ : Carried) → d ≡ Decided x → Carries s round (anchorRound b round) g₁ (length work) work′ (statusesOf later)
+            → g′ ≡ moreOf g₁ → area′ ≡ putOf area (first - statusWords) x
+            → RoundFrom s stakes floor o size memory round area₀ from work₀ area′ work′ g′ (first - statusWords) (j - 1)
+        round-push x area′ work′ g₁ g′ q ew eg e′ =
             let i : first - statusWords + statusWords ≡ first = omega (arith, round-room) in
             let n : length area′ ≡ length area = ap length e′ ∙ put-length area (first - statusWords) x in
             let m : length (seatsBelow o size round j) ≡ suc (length (seatsBelow o size round (j - 1))) = ap length seats-one in
             let f : statusesOf (drop (first - statusWords) area′) ≡ x ∷ statusesOf (drop first area) =
             ap (λ (l : List ℕ). statusesOf (drop (first - statusWords) l)) e′ ∙ put-front area (first - statusWords) (omega (arith, round-room, inv .within)) x
             ∙ ap (λ (k : ℕ). x ∷ statusesOf (drop k area)) i in
+            let kept : Carries s round (anchorsFrom o round) g₁ (length work₀) work′ (statusesOf (drop first area)) =
+            carries-as s round (anchorRound b round) (anchorsFrom o round) g₁ (length work) (length work₀) work′ (statusesOf later) (statusesOf (drop first area))
+            (sym anchors-here) (sym same-room) (sym (ap statusesOf el)) ew in
             record {
               within = omega (arith, inv .within, round-room);
               same = n ∙ inv .same;
-              held = holds-kept s past work₀ work past′ work′ (inv .held) ew;
+              carried = rw f (carries-more s round (anchorsFrom o round) g₁ (length work₀) work′ (statusesOf (drop first area)) kept x g′ (found-round s (linkedIn s (length work)) stakes floor memory b (a .0) round (statusesOf later) d x ed q) eg);
               left = omega (arith, inv .left, round-room);
               room = omega (arith, inv .room, round-room);
               walked = ap (λ (xs : List LeaderStatus). examine rules memory (seatsBelow o size round (j - 1)) xs) f ∙ with-found (Decided x) q;
@@ -247,24 +267,24 @@ pub two-left : (r : Walked) (from k : ℕ) → r ≡ walked.Two → Left r from 
 two-left r from k q = rw q tt
 
 pub record RoundsFrom (s : Store) (stakes : List ℕ) (floor : ℕ) (o : UniversalCommitterOptions) (size : ℕ) (memory : List LeaderStatus) (low rounds : ℕ)
-    (area₀ work₀ area work : List ℕ) (past : Past) (first n : ℕ) : Type 0 where
+    (area₀ work₀ area work : List ℕ) (g : Carried) (first n : ℕ) : Type 0 where
   pub within : first ≤ length area
   pub same : length area ≡ length area₀
-  pub held : Holds s past (length work₀) work
+  pub carried : Carries s (low + n) (anchorsFrom o (low + n)) g (length work₀) work (statusesOf (drop first area))
   pub count : n ≤ rounds
   pub left : first + length (seatsOver o size low rounds) * statusWords ≡ length area₀ + length (seatsOver o size low n) * statusWords
   pub room : length (seatsOver o size low n) * statusWords ≤ first
   pub walked : examine (rulesOf s (linkedIn s (length work₀)) stakes floor o) memory (seatsOver o size low n) (statusesOf (drop first area))
       ≡ examine (rulesOf s (linkedIn s (length work₀)) stakes floor o) memory (seatsOver o size low rounds) []
 
-pub rounds-start : (s : Store) (stakes : List ℕ) (floor : ℕ) (o : UniversalCommitterOptions) (size : ℕ) (memory : List LeaderStatus) (low rounds : ℕ) (area work : List ℕ) (past : Past)
-    → length (seatsOver o size low rounds) * statusWords ≤ length area → Holds s past (length work) work
-    → RoundsFrom s stakes floor o size memory low rounds area work area work past (length area) rounds
-rounds-start s stakes floor o size memory low rounds area work past h z =
+pub rounds-start : (s : Store) (stakes : List ℕ) (floor : ℕ) (o : UniversalCommitterOptions) (size : ℕ) (memory : List LeaderStatus) (low rounds : ℕ) (area work : List ℕ) (g : Carried)
+    → length (seatsOver o size low rounds) * statusWords ≤ length area → Holds s (g .past) (length work) work → g .sight ≡ sightOf 0 Nothing
+    → RoundsFrom s stakes floor o size memory low rounds area work area work g (length area) rounds
+rounds-start s stakes floor o size memory low rounds area work g h z e =
     record {
       within = le-refl (length area);
       same = refl;
-      held = z;
+      carried = carries-none s (low + rounds) (anchorsFrom o (low + rounds)) g (length work) work (statusesOf (drop (length area) area)) z e (ap statusesOf (drop-of-length-le area (le-refl (length area))));
       count = le-refl rounds;
       left = refl;
       room = h;
@@ -272,12 +292,15 @@ rounds-start s stakes floor o size memory low rounds area work past h z =
     }
 
 module _ (s : Store) (stakes : List ℕ) (floor : ℕ) (o : UniversalCommitterOptions) (size : ℕ) (memory : List LeaderStatus) (low rounds : ℕ)
-    (area₀ work₀ area work : List ℕ) (past : Past) (first n : ℕ) (inv : RoundsFrom s stakes floor o size memory low rounds area₀ work₀ area work past first n) where
+    (area₀ work₀ area work : List ℕ) (g : Carried) (first n : ℕ) (inv : RoundsFrom s stakes floor o size memory low rounds area₀ work₀ area work g first n) where
   abbrev rules-all : Seat → List LeaderStatus → Ruled
   rules-all = rulesOf s (linkedIn s (length work₀)) stakes floor o
 
   abbrev all : Examined
   all = examine rules-all memory (seatsOver o size low rounds) []
+
+  same-work : length work ≡ length work₀
+  same-work = holds-length s (g .past) work₀ work (inv .carried .held)
 
   pub rounds-done : n ≤ 0 → seen (statusesOf (drop first area)) ≡ all
   unfolding examine seatsOver
@@ -297,6 +320,13 @@ module _ (s : Store) (stakes : List ℕ) (floor : ℕ) (o : UniversalCommitterOp
     count-here : length (seatsOver o size low n) ≡ length (seatsBelow o size (low + (n - 1)) (committers o)) + length (seatsOver o size low (n - 1))
     count-here = ap length rounds-here ∙ length-append (seatsBelow o size (low + (n - 1)) (committers o)) (seatsOver o size low (n - 1))
 
+    -- what is left to the round
+    pub rounds-carries : Carries s (low + (n - 1)) (anchorsFrom o (low + (n - 1))) g (length work) work (statusesOf (drop first area))
+    rounds-carries =
+        carries-as s (low + (n - 1)) (anchorsFrom o (low + (n - 1))) (anchorsFrom o (low + (n - 1))) g (length work₀) (length work) work (statusesOf (drop first area)) (statusesOf (drop first area)) refl same-work refl
+        (carries-lower s (low + n) (anchorsFrom o (low + n)) g (length work₀) work (statusesOf (drop first area)) (inv .carried)
+        (low + (n - 1)) (anchorsFrom o (low + (n - 1))) (omega arith) (anchors-fall o (low + (n - 1)) (low + n) (omega arith)))
+
     -- the round has room in front of what is there
     pub rounds-room : length (seatsBelow o size (low + (n - 1)) (committers o)) * statusWords ≤ first
     rounds-room = omega (arith, inv .room, count-here)
@@ -305,7 +335,7 @@ module _ (s : Store) (stakes : List ℕ) (floor : ℕ) (o : UniversalCommitterOp
         (er : walkOf r area′ ≡ examine (rulesOf s (linkedIn s (length work)) stakes floor o) memory (seatsBelow o size (low + (n - 1)) (committers o)) (statusesOf (drop first area))) where
       after-round : (r′ : Walked) → r ≡ r′ → andSeen (walkOf r′ area′) (examine rules-all memory (seatsOver o size low (n - 1))) ≡ all
       after-round r′ q =
-          let k : length work ≡ length work₀ = holds-length s past work₀ work (inv .held) in
+          let k : length work ≡ length work₀ = same-work in
           let f : walkOf r′ area′ ≡ examine rules-all memory (seatsBelow o size (low + (n - 1)) (committers o)) (statusesOf (drop first area)) =
           sym (ap (λ (w : Walked). walkOf w area′) q) ∙ er
           ∙ ap (λ (m : ℕ). examine (rulesOf s (linkedIn s m) stakes floor o) memory (seatsBelow o size (low + (n - 1)) (committers o)) (statusesOf (drop first area))) k in
@@ -316,16 +346,23 @@ module _ (s : Store) (stakes : List ℕ) (floor : ℕ) (o : UniversalCommitterOp
       pub rounds-two : r ≡ walked.Two → walkOf r area′ ≡ all
       rounds-two q = ap (λ (w : Walked). walkOf w area′) q ∙ after-round walked.Two q
 
-      pub rounds-next : (next : ℕ) (work′ : List ℕ) (past′ : Past) → r ≡ walked.From next → Left r first (length (seatsBelow o size (low + (n - 1)) (committers o))) → length area′ ≡ length area
-          → Holds s past′ (length work) work′ → RoundsFrom s stakes floor o size memory low rounds area₀ work₀ area′ work′ past′ next (n - 1)
-      rounds-next next work′ past′ q w l ew =
-          let u : next + length (seatsBelow o size (low + (n - 1)) (committers o)) * statusWords ≡ first = rw q at w in
-          record {
-            within = omega (arith, inv .within);
-            same = l ∙ inv .same;
-            held = holds-kept s past work₀ work past′ work′ (inv .held) ew;
-            count = omega (arith, inv .count);
-            left = omega (arith, inv .left, count-here);
-            room = omega (arith, inv .room, count-here);
-            walked = after-round (walked.From next) q;
-          }
+      module _ (g′ : Carried) (work′ : List ℕ) (eg : CarriedOn r s (low + (n - 1)) (anchorsFrom o (low + (n - 1))) g′ (length work) work′ area′) where
+        pub rounds-held : r ≡ walked.Two → Holds s (g′ .past) (length work₀) work′
+        rounds-held q =
+            let h : Holds s (g′ .past) (length work) work′ = rw q at eg in
+            holds-kept s (g .past) work₀ work (g′ .past) work′ (inv .carried .held) h
+
+        pub rounds-next : (next : ℕ) → r ≡ walked.From next → Left r first (length (seatsBelow o size (low + (n - 1)) (committers o))) → length area′ ≡ length area
+            → RoundsFrom s stakes floor o size memory low rounds area₀ work₀ area′ work′ g′ next (n - 1)
+        rounds-next next q w l =
+            let u : next + length (seatsBelow o size (low + (n - 1)) (committers o)) * statusWords ≡ first = rw q at w in
+            let v : Carries s (low + (n - 1)) (anchorsFrom o (low + (n - 1))) g′ (length work) work′ (statusesOf (drop next area′)) = rw q at eg in
+            record {
+              within = omega (arith, inv .within);
+              same = l ∙ inv .same;
+              carried = carries-as s (low + (n - 1)) (anchorsFrom o (low + (n - 1))) (anchorsFrom o (low + (n - 1))) g′ (length work) (length work₀) work′ (statusesOf (drop next area′)) (statusesOf (drop next area′)) refl (sym same-work) refl v;
+              count = omega (arith, inv .count);
+              left = omega (arith, inv .left, count-here);
+              room = omega (arith, inv .room, count-here);
+              walked = after-round (walked.From next) q;
+            }

@@ -5,6 +5,7 @@ mod counts; // how many leaders a call examines, by arithmetic
 pub mod options; // the options, and the committers that they stand for
 mod outcome; // what a commit comes to behind its tests
 mod past; // whose past the work area has marked
+mod sight; // what was seen of the statuses of later leaders
 mod sound; // the tests in front of a commit
 mod walk; // the leaders decided from the highest round down
 

@@ -4,11 +4,13 @@ use crate::options::committer;
 use crate::options::committer_count;
 use crate::past::Past;
 use crate::past::mark_past;
+use crate::sight::Sight;
+use crate::sight::look;
 use base_committer::Anchor;
 use base_committer::BaseCommitterOptions;
 use base_committer::Decision;
 use base_committer::Elected;
-use base_committer::parts::anchor_of;
+use base_committer::parts::anchoring_round;
 use base_committer::parts::deciding_round;
 use base_committer::parts::decision_by_marks;
 use base_committer::parts::direct_decision;
@@ -30,10 +32,12 @@ ghost use Rattle.index.specs.Keys.{referenceKey};
 ghost use Rattle.index.specs.Search.{Indexed};
 ghost use Rattle.block_store.specs.Store.{storeOf};
 ghost use Rattle.linked.specs.Linked.{linkedIn};
+ghost use Rattle.base_committer.specs.Waves.{anchorRound};
 ghost use Rattle.consensus.specs.Statuses.{statusWords, statusesOf};
 ghost use Rattle.commit_walk.specs.Rows.{SortedIf};
 ghost use Rattle.commit_walk.specs.Walk.{examine};
 ghost use Rattle.universal_committer.specs.Marked.{Holds};
+ghost use Rattle.universal_committer.specs.Sighted.{moreOf, anchorsFrom, Carries, CarriedOn};
 ghost use Rattle.universal_committer.specs.Options.{SoundOptions, committers};
 ghost use Rattle.universal_committer.specs.Seats.{seatsBelow, seatsOver};
 ghost use Rattle.universal_committer.specs.Rules.{isRuled, ruledOf, foundOf, rulesOf, walkOf, Left};
@@ -44,16 +48,22 @@ pub enum Walked {
     Two,
 }
 
-// What is decided of a leader, and what the work area holds then.
-pub(crate) struct Ruling {
-    pub decision: Decision,
+// What one leader leaves to the next: what the work area holds, and what was seen of the later statuses.
+pub(crate) struct Carried {
     pub past: Past,
+    pub sight: Sight,
 }
 
-// How far the walk came by a round, and what the work area holds then.
+// What is decided of a leader, and what is left to the next.
+pub(crate) struct Ruling {
+    pub decision: Decision,
+    pub carried: Carried,
+}
+
+// How far the walk came by a round, and what is left to the next.
 pub(crate) struct Stage {
     pub walked: Walked,
-    pub past: Past,
+    pub carried: Carried,
 }
 
 // Whether the direct rule leaves nothing to the indirect one.
@@ -77,13 +87,13 @@ fn ruled(
     base: BaseCommitterOptions,
     place: AuthorRound,
     later: &[u64],
-    past: Past,
+    carried: Carried,
     work: &mut [u8],
 ) -> Ruling
-    requires { ⌜ Holds (storeOf (now blocks) (now includes) stored) past (length (now work)) (now work) ⌝ }
+    requires { ⌜ Carries (storeOf (now blocks) (now includes) stored) (place .round .0) (anchorRound base (place .round .0)) carried (length (now work)) (now work) (statusesOf (now later)) ⌝ }
     requires { ⌜ Indexed (referenceKey (now blocks)) stored (now order) ⌝ }
     ensures { λ r. ⌜ r .decision ≡ ruledOf (storeOf (now (blocks .entry)) (now (includes .entry)) stored) (linkedIn (storeOf (now (blocks .entry)) (now (includes .entry)) stored) (length (now (work .entry)))) (now (stakes .entry)) (floor .0) base (place .authority .0) (place .round .0) (statusesOf (now (later .entry))) ⌝ }
-    ensures held { λ r. ⌜ Holds (storeOf (now (blocks .entry)) (now (includes .entry)) stored) (r .past) (length (now (work .entry))) (now (work .exit)) ⌝ }
+    ensures held { λ r. ⌜ Carries (storeOf (now (blocks .entry)) (now (includes .entry)) stored) (place .round .0) (anchorRound base (place .round .0)) (r .carried) (length (now (work .entry))) (now (work .exit)) (statusesOf (now (later .entry))) ⌝ }
 {
     let leader = place.authority;
     let round = place.round;
@@ -101,14 +111,20 @@ fn ruled(
     if is_ruled(direct) {
         return Ruling {
             decision: direct,
-            past: past,
+            carried: carried,
         };
     }
-    let found = anchor_of(base, round, later);
+    let past = carried.past;
+    let sight = carried.sight;
+    let seen = look(later, anchoring_round(base, round), sight);
+    let found = seen.anchor;
     let Anchor::At(anchor) = found else {
         return Ruling {
             decision: Decision::Decided(LeaderStatus::Undecided(place)),
-            past: past,
+            carried: Carried {
+                past: past,
+                sight: seen,
+            },
         };
     };
     let low = deciding_round(base, round);
@@ -127,7 +143,10 @@ fn ruled(
     );
     Ruling {
         decision: decision,
-        past: held,
+        carried: Carried {
+            past: held,
+            sight: seen,
+        },
     }
 }
 
@@ -145,20 +164,20 @@ fn decision_at(
     base: BaseCommitterOptions,
     place: AuthorRound,
     later: &[u64],
-    past: Past,
+    carried: Carried,
     work: &mut [u8],
 ) -> Ruling
-    requires { ⌜ Holds (storeOf (now blocks) (now includes) stored) past (length (now work)) (now work) ⌝ }
+    requires { ⌜ Carries (storeOf (now blocks) (now includes) stored) (place .round .0) (anchorRound base (place .round .0)) carried (length (now work)) (now work) (statusesOf (now later)) ⌝ }
     requires { ⌜ Indexed (referenceKey (now blocks)) stored (now order) ⌝ }
     requires { ⌜ SortedIf sorted (now places) (now memory) ⌝ }
     ensures { λ r. ⌜ r .decision ≡ foundOf (storeOf (now (blocks .entry)) (now (includes .entry)) stored) (linkedIn (storeOf (now (blocks .entry)) (now (includes .entry)) stored) (length (now (work .entry)))) (now (stakes .entry)) (floor .0) (statusesOf (now (memory .entry))) base (place .authority .0) (place .round .0) (statusesOf (now (later .entry))) ⌝ }
-    ensures held { λ r. ⌜ Holds (storeOf (now (blocks .entry)) (now (includes .entry)) stored) (r .past) (length (now (work .entry))) (now (work .exit)) ⌝ }
+    ensures held { λ r. ⌜ Carries (storeOf (now (blocks .entry)) (now (includes .entry)) stored) (place .round .0) (anchorRound base (place .round .0)) (r .carried) (length (now (work .entry))) (now (work .exit)) (statusesOf (now (later .entry))) ⌝ }
 {
     let found = remembered(memory, places, sorted, place);
     if let Recalled::Known(x) = found {
         return Ruling {
             decision: Decision::Decided(x),
-            past: past,
+            carried: carried,
         };
     }
     ruled(
@@ -171,9 +190,26 @@ fn decision_at(
         base,
         place,
         later,
-        past,
+        carried,
         work,
     )
+}
+
+// What is left to the next leader once one status more stands in front, unseen.
+fn one_more(carried: Carried) -> Carried
+    requires { ⌜ carried .sight .unseen < 2 ^ 62 ⌝ }
+    ensures { λ r. ⌜ r ≡ moreOf carried ⌝ }
+{
+    let past = carried.past;
+    let sight = carried.sight;
+    let anchor = sight.anchor;
+    Carried {
+        past: past,
+        sight: Sight {
+            unseen: sight.unseen + 1,
+            anchor: anchor,
+        },
+    }
 }
 
 // Decides the leaders of a round, the last first, and puts each status in front of those that stand in the area from `from` on.
@@ -192,20 +228,20 @@ fn examine_round(
     round: RoundNumber,
     area: &mut [u64],
     from: usize,
-    start: Past,
+    start: Carried,
     work: &mut [u8],
 ) -> Stage
     requires { ⌜ SoundOptions options 128 ⌝ }
     requires { ⌜ (from ≤ length (now area)) × (length (seatsBelow options size (round .0) (committers options)) * statusWords ≤ from) ⌝ }
-    requires { ⌜ Holds (storeOf (now blocks) (now includes) stored) start (length (now work)) (now work) ⌝ }
+    requires { ⌜ Carries (storeOf (now blocks) (now includes) stored) (round .0) (anchorsFrom options (round .0)) start (length (now work)) (now work) (statusesOf (drop from (now area))) ⌝ }
     requires { ⌜ Indexed (referenceKey (now blocks)) stored (now order) ⌝ }
     requires { ⌜ SortedIf sorted (now places) (now memory) ⌝ }
     ensures { λ r. ⌜ walkOf (r .walked) (now (area .exit)) ≡ examine (rulesOf (storeOf (now (blocks .entry)) (now (includes .entry)) stored) (linkedIn (storeOf (now (blocks .entry)) (now (includes .entry)) stored) (length (now (work .entry)))) (now (stakes .entry)) (floor .0) options) (statusesOf (now (memory .entry))) (seatsBelow options size (round .0) (committers options)) (statusesOf (drop from (now (area .entry)))) ⌝ }
     ensures used { λ r. ⌜ Left (r .walked) from (length (seatsBelow options size (round .0) (committers options))) ⌝ }
-    ensures held { λ r. ⌜ Holds (storeOf (now (blocks .entry)) (now (includes .entry)) stored) (r .past) (length (now (work .entry))) (now (work .exit)) ⌝ }
+    ensures held { λ r. ⌜ CarriedOn (r .walked) (storeOf (now (blocks .entry)) (now (includes .entry)) stored) (round .0) (anchorsFrom options (round .0)) (r .carried) (length (now (work .entry))) (now (work .exit)) (now (area .exit)) ⌝ }
 {
     let mut first = from;
-    let mut past = start;
+    let mut carried = start;
     let mut j = committer_count(options);
     while 0 < j {
         j -= 1;
@@ -230,23 +266,24 @@ fn examine_round(
             base,
             place,
             &area[first..],
-            past,
+            carried,
             work,
         );
-        past = found.past;
+        let next = found.carried;
         let decision = found.decision;
         let Decision::Decided(x) = decision else {
             return Stage {
                 walked: Walked::Two,
-                past: past,
+                carried: next,
             };
         };
         first -= STATUS_WORDS;
         put_status(area, first, x);
+        carried = one_more(next);
     }
     Stage {
         walked: Walked::From(first),
-        past: past,
+        carried: carried,
     }
 }
 
@@ -276,12 +313,18 @@ fn walk_rounds(
     requires { ⌜ SortedIf sorted (now places) (now memory) ⌝ }
     ensures { λ r. ⌜ walkOf (r .walked) (now (area .exit)) ≡ examine (rulesOf (storeOf (now (blocks .entry)) (now (includes .entry)) stored) (linkedIn (storeOf (now (blocks .entry)) (now (includes .entry)) stored) (length (now (work .entry)))) (now (stakes .entry)) (floor .0) options) (statusesOf (now (memory .entry))) (seatsOver options size (low .0) rounds) [] ⌝ }
     ensures used { λ r. ⌜ Left (r .walked) (length (now (area .entry))) (length (seatsOver options size (low .0) rounds)) ⌝ }
-    ensures held { λ r. ⌜ Holds (storeOf (now (blocks .entry)) (now (includes .entry)) stored) (r .past) (length (now (work .entry))) (now (work .exit)) ⌝ }
+    ensures held { λ r. ⌜ Holds (storeOf (now (blocks .entry)) (now (includes .entry)) stored) (r .carried .past) (length (now (work .entry))) (now (work .exit)) ⌝ }
 {
     let mut first = area.len();
-    let mut past = Past {
-        row: stored,
-        low: RoundNumber(0),
+    let mut carried = Carried {
+        past: Past {
+            row: stored,
+            low: RoundNumber(0),
+        },
+        sight: Sight {
+            unseen: 0,
+            anchor: Anchor::Nothing,
+        },
     };
     let mut n = rounds;
     while 0 < n {
@@ -301,10 +344,10 @@ fn walk_rounds(
             RoundNumber(low.0 + n),
             area,
             first,
-            past,
+            carried,
             work,
         );
-        past = found.past;
+        carried = found.carried;
         let walked = found.walked;
         match walked {
             Walked::From(next) => first = next,
@@ -313,7 +356,7 @@ fn walk_rounds(
     }
     Stage {
         walked: Walked::From(first),
-        past: past,
+        carried: carried,
     }
 }
 
@@ -361,7 +404,8 @@ pub(crate) fn examine_rounds(
         area,
         work,
     );
-    let past = found.past;
+    let carried = found.carried;
+    let past = carried.past;
     if stored <= past.row {
         return found.walked;
     }

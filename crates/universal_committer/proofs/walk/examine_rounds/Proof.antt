@@ -19,8 +19,8 @@ same-length-2 c = search needs
 
 returns : tie.Need-returns
 returns c =
-    let a = c .before .before .before .before .before .before .before .before .before .before .before .before .before .before .before .before .before .before .args in
-    (c .before .before .before .before .before .before .before .walk-rounds .ensures .0, (c .before .before .before .before .before .before .before .walk-rounds .ensures .1 .0, holds-zeros (storeOf (a .blocks .now) (a .includes .now) (a .stored)) (c .before .before .before .before .before .before .before .walk-rounds .result .past) (length (a .work .now)) (c .before .before .before .before .before .before .before .walk-rounds .last .1 .1 .1 .1 .1 .1 .1 .1 .1 .1 .1 .1 .1 .1 .0) (c .before .before .before .before .before .before .before .walk-rounds .ensures .1 .1) (c .if1 .taken)))
+    let a = c .before .before .before .before .before .before .before .before .before .before .before .before .before .before .before .before .before .before .before .args in
+    (c .before .before .before .before .before .before .before .before .walk-rounds .ensures .0, (c .before .before .before .before .before .before .before .before .walk-rounds .ensures .1 .0, holds-zeros (storeOf (a .blocks .now) (a .includes .now) (a .stored)) (c .before .before .before .before .before .before .before .before .walk-rounds .result .carried .past) (length (a .work .now)) (c .before .before .before .before .before .before .before .before .walk-rounds .last .1 .1 .1 .1 .1 .1 .1 .1 .1 .1 .1 .1 .1 .1 .0) (c .before .before .before .before .before .before .before .before .walk-rounds .ensures .1 .1) (c .if1 .taken)))
 
 clear-bytes-requires : tie.Need-clear-bytes-requires
 clear-bytes-requires c κs = search needs
@@ -32,7 +32,7 @@ same-length-4 : tie.Need-same-length-4
 same-length-4 c = search needs
 
 returns-2 : tie.Need-returns-2
-returns-2 c = (c .before .before .before .before .before .before .before .before .before .before .before .walk-rounds .ensures .0, (c .before .before .before .before .before .before .before .before .before .before .before .walk-rounds .ensures .1 .0, c .before .before .clear-bytes .ensures ∙ ap (λ (n : ℕ). replicate n 0) (c .before .before .before .before .before .before .before .before .before .before .before .walk-rounds .kept .1 .1 .1 .1 .1 .1 .1 .1 .1 .1 .1 .1 .1 .1 .0)))
+returns-2 c = (c .before .before .before .before .before .before .before .before .before .before .before .before .walk-rounds .ensures .0, (c .before .before .before .before .before .before .before .before .before .before .before .before .walk-rounds .ensures .1 .0, c .before .before .clear-bytes .ensures ∙ ap (λ (n : ℕ). replicate n 0) (c .before .before .before .before .before .before .before .before .before .before .before .before .walk-rounds .kept .1 .1 .1 .1 .1 .1 .1 .1 .1 .1 .1 .1 .1 .1 .0)))
 
 pub examine-rounds-spec : {M : Type 1} → statement M
 examine-rounds-spec =
