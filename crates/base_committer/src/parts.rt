@@ -9,7 +9,7 @@ use crate::direct::skipped;
 use crate::indirect::find_anchor;
 use crate::indirect::only_certified;
 use crate::only::commit_or;
-use crate::waves::anchor_round;
+pub use crate::waves::anchor_round;
 use crate::waves::decision_round;
 use crate::waves::leader_round;
 use crate::waves::plus;
@@ -27,7 +27,7 @@ ghost use Rattle.index.specs.Rounds.{rowsOfRound};
 ghost use Rattle.block_store.specs.Store.{storeOf};
 ghost use Rattle.consensus.specs.Statuses.{statusesOf};
 ghost use Rattle.linked.specs.Linked.{linkedIn};
-ghost use Rattle.base_committer.specs.Waves.{waveNumber, decisionRound, anchorRound, reportedElected, electedReport};
+ghost use Rattle.base_committer.specs.Waves.{waveNumber, decisionRound, reportedElected, electedReport};
 ghost use Rattle.base_committer.specs.Only.{reportedDecision};
 ghost use Rattle.base_committer.specs.Decide.{decideByMarks, directReport, indirectReport};
 
@@ -91,13 +91,6 @@ pub fn direct_decision(
         round,
     );
     commit_or(found, position, LeaderStatus::Undecided(position))
-}
-
-// The first round whose leaders can be anchors of a leader of that round.
-pub fn anchoring_round(options: BaseCommitterOptions, round: RoundNumber) -> RoundNumber
-    ensures { λ r. ⌜ r .0 ≡ anchorRound options (round .0) ⌝ }
-{
-    anchor_round(options, round)
 }
 
 // The round whose blocks can certify a leader block of that round.

@@ -77,7 +77,7 @@ pub(crate) fn voting_round(o: BaseCommitterOptions, round: RoundNumber) -> Round
 }
 
 // The first round whose leaders can be anchors of a leader of that round.
-pub(crate) fn anchor_round(o: BaseCommitterOptions, round: RoundNumber) -> RoundNumber
+pub fn anchor_round(o: BaseCommitterOptions, round: RoundNumber) -> RoundNumber
     ensures { λ r. ⌜ r .0 ≡ anchorRound o (round .0) ⌝ }
 {
     RoundNumber(plus(round.0, o.wave_length))

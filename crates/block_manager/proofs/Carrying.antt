@@ -279,7 +279,7 @@ module _ (B R : ℕ) (blocks₀ includes₀ waiting named order others place : L
 
   -- ---- both sides
 
-  pub can-keep : CanKeep (length waiting / 8) (length named / 6) waiting named place (c .pending) (c .named)
+  pub can-keep : CanKeep (length waiting / 8) (length named / 6) waiting named (c .pending) (c .named)
   can-keep = record { side = sized B R waiting named (c .pending) (c .named) P (m .holds .pending-side) }
 
   pub now-carried : (blocks' includes' waiting' named' : List ℕ) (total' left' kept' : ℕ)

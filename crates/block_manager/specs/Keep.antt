@@ -14,5 +14,5 @@ stayingFrom place k [] = []
 stayingFrom place k (b ∷ p) = cond (eqb (getD place k 0) 0) (b ∷ stayingFrom place (suc k) p) (stayingFrom place (suc k) p)
 
 -- what is asked before the others move together
-pub record CanKeep (B R : ℕ) (waiting named place : List ℕ) (pending total : ℕ) : Type 0 where
+pub record CanKeep (B R : ℕ) (waiting named : List ℕ) (pending total : ℕ) : Type 0 where
   pub side : PendingAs B R waiting named pending total (pendingIn waiting named pending)

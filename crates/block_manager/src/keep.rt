@@ -45,7 +45,7 @@ pub(crate) fn keep_left(
     pending: usize,
     total: usize,
 ) -> Left
-    requires { ⌜ CanKeep (length (now waiting) / blockWords) (length (now named) / referenceWords) (now waiting) (now named) (now place) pending total ⌝ }
+    requires { ⌜ CanKeep (length (now waiting) / blockWords) (length (now named) / referenceWords) (now waiting) (now named) pending total ⌝ }
     ensures { λ r. ⌜ PendingAs (length (now (waiting .entry)) / blockWords) (length (now (named .entry)) / referenceWords) (now (waiting .exit)) (now (named .exit)) (r .pending) (r .named) (stayingFrom (now (place .entry)) 0 (pendingIn (now (waiting .entry)) (now (named .entry)) pending)) ⌝ }
 {
     let mut kept = 0;

@@ -6,7 +6,9 @@ mod carry; // a plan of what a stored block lets in, carried out
 mod cascade; // what a stored block lets in, one by one
 mod edit; // rows written and taken out
 mod keep; // the pending rows that stay move together
+mod making; // a plan of what a stored block lets in, proposed and tested
 pub mod offer; // add_block
+mod propose; // a plan, of which nothing is promised
 mod release; // what a stored block lets in
 
 pub use offer::add_block;

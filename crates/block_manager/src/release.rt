@@ -1,11 +1,11 @@
 // What a new row lets in: one by one where little waits, and else by a plan, found before anything moves and carried out at once.
 use crate::carry::carry_out;
 use crate::cascade::cascade;
+use crate::making::make_plan;
 use block_store::parts::reference_of;
 use block_store::sound::MAX_BLOCKS;
 use block_tables::Counts;
 use block_tables::indexed::first_freed;
-use plan::making::make_plan;
 ghost use mathlib.Core.Path.{_≡_};
 ghost use Prim.Native.Nat.{_+_, _*_, _-_, _/_};
 ghost use lib.ListN.{length};
@@ -17,8 +17,8 @@ ghost use Rattle.block_manager.specs.Release.{CanRelease};
 // Up to so many waiting rows are gone through for each that goes in.
 const FEW: usize = 64;
 
-// A plan is found with two entries for each waiting row.
-const LINKS: usize = 131072;
+// The entries of a plan's links: two for each waiting row.
+const LINK_ENTRIES: usize = 131072;
 
 // By a plan, if one is found that passes its tests, and else one by one.
 fn release_planned(
@@ -37,7 +37,7 @@ fn release_planned(
     let stored = start.stored;
     let pending = start.pending;
     let mut place = [0u16; MAX_BLOCKS];
-    let mut links = [0u16; LINKS];
+    let mut links = [0u16; LINK_ENTRIES];
     let n = make_plan(
         blocks,
         order,

@@ -17,7 +17,7 @@ ghost use Rattle.block_tables.specs.Reading.{allFound};
 ghost use Rattle.plan.specs.Planned.{fits, isFree, apartFrom, placesFrom, plannedRow, plannedUp, reachBy, goesOrLacks, planLeaves, planFollows};
 
 // Every entry of an area becomes 0.
-pub(crate) fn clear_entries(area: &mut [u16])
+pub fn clear_entries(area: &mut [u16])
     ensures { λ _. ⌜ now (area .exit) ≡ replicate (length (now (area .entry))) 0 ⌝ }
 {
     let mut i = 0;

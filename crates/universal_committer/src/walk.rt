@@ -10,7 +10,7 @@ use base_committer::Anchor;
 use base_committer::BaseCommitterOptions;
 use base_committer::Decision;
 use base_committer::Elected;
-use base_committer::parts::anchoring_round;
+use base_committer::parts::anchor_round;
 use base_committer::parts::deciding_round;
 use base_committer::parts::decision_by_marks;
 use base_committer::parts::direct_decision;
@@ -116,7 +116,7 @@ fn ruled(
     }
     let past = carried.past;
     let sight = carried.sight;
-    let seen = look(later, anchoring_round(base, round), sight);
+    let seen = look(later, anchor_round(base, round), sight);
     let found = seen.anchor;
     let Anchor::At(anchor) = found else {
         return Ruling {

@@ -28,13 +28,13 @@ returns c =
     let s = storeOf (a .blocks .now) (a .includes .now) (a .stored) in
     (ruled-direct s (a .order .now) (c .before .before .before .before .before .before .before .before .before .before .before .pre .1) (linkedIn s (length (a .work .now))) (a .stakes .now) (a .floor .0) (a .base) (a .place .authority .0) (a .place .round .0) (statusesOf (a .later .now)) (c .before .before .direct-decision .result) (c .before .before .direct-decision .ensures) (c .before .is-ruled .result) (c .before .is-ruled .ensures) (c .if1 .taken), c .before .before .before .before .before .before .before .before .before .before .before .pre .0)
 
-anchoring-round-requires : tie.Need-anchoring-round-requires
-anchoring-round-requires c κs = search needs
+anchor-round-requires : tie.Need-anchor-round-requires
+anchor-round-requires c κs = search needs
 
 look-requires : tie.Need-look-requires
 look-requires c κs =
     let a = c .before .before .before .before .before .before .before .before .before .before .before .before .before .before .args in
-    sight-asked (storeOf (a .blocks .now) (a .includes .now) (a .stored)) (a .place .round .0) (anchorRound (a .base) (a .place .round .0)) (a .carried) (length (a .work .now)) (a .work .now) (statusesOf (a .later .now)) (c .before .before .before .before .before .before .before .before .before .before .before .before .before .before .pre .0) (c .anchoring-round .result .0) (c .anchoring-round .ensures)
+    sight-asked (storeOf (a .blocks .now) (a .includes .now) (a .stored)) (a .place .round .0) (anchorRound (a .base) (a .place .round .0)) (a .carried) (length (a .work .now)) (a .work .now) (statusesOf (a .later .now)) (c .before .before .before .before .before .before .before .before .before .before .before .before .before .before .pre .0) (c .anchor-round .result .0) (c .anchor-round .ensures)
 
 enum-known-found : tie.Need-enum-known-found
 enum-known-found c = search needs
@@ -47,8 +47,8 @@ returns-2 c =
     let a = c .before .before .before .before .before .before .before .before .before .before .before .before .before .before .before .before .before .args in
     let s = storeOf (a .blocks .now) (a .includes .now) (a .stored) in
     let xs = statusesOf (a .later .now) in
-    let e = indirect-none s (a .order .now) (length (a .work .now)) (a .stakes .now) (a .floor .0) (a .base) (a .place .authority .0) (a .place .round .0) xs (c .before .before .look .result .anchor) (c .before .before .look .ensures .0 ∙ ap (λ (n : ℕ). anchorOf n xs) (c .before .before .before .anchoring-round .ensures)) (c .enum-told .given .1) in
-    (ruled-indirect s (a .order .now) (c .before .before .before .before .before .before .before .before .before .before .before .before .before .before .before .before .before .pre .1) (linkedIn s (length (a .work .now))) (a .stakes .now) (a .floor .0) (a .base) (a .place .authority .0) (a .place .round .0) xs (c .before .before .before .before .before .before .before .before .direct-decision .result) (c .before .before .before .before .before .before .before .before .direct-decision .ensures) (c .before .before .before .before .before .before .before .is-ruled .result) (c .before .before .before .before .before .before .before .is-ruled .ensures) _ (c .before .before .before .before .before .before .if1 .left) e, sight-kept s (a .place .round .0) (anchorRound (a .base) (a .place .round .0)) (a .carried) (length (a .work .now)) (a .work .now) xs (c .before .before .before .before .before .before .before .before .before .before .before .before .before .before .before .before .before .pre .0) (c .before .before .before .anchoring-round .result .0) (c .before .before .before .anchoring-round .ensures) (a .carried .past) (a .work .now) (c .before .before .before .before .before .before .before .before .before .before .before .before .before .before .before .before .before .pre .0 .held) (c .before .before .look .result) (c .before .before .look .ensures .1))
+    let e = indirect-none s (a .order .now) (length (a .work .now)) (a .stakes .now) (a .floor .0) (a .base) (a .place .authority .0) (a .place .round .0) xs (c .before .before .look .result .anchor) (c .before .before .look .ensures .0 ∙ ap (λ (n : ℕ). anchorOf n xs) (c .before .before .before .anchor-round .ensures)) (c .enum-told .given .1) in
+    (ruled-indirect s (a .order .now) (c .before .before .before .before .before .before .before .before .before .before .before .before .before .before .before .before .before .pre .1) (linkedIn s (length (a .work .now))) (a .stakes .now) (a .floor .0) (a .base) (a .place .authority .0) (a .place .round .0) xs (c .before .before .before .before .before .before .before .before .direct-decision .result) (c .before .before .before .before .before .before .before .before .direct-decision .ensures) (c .before .before .before .before .before .before .before .is-ruled .result) (c .before .before .before .before .before .before .before .is-ruled .ensures) _ (c .before .before .before .before .before .before .if1 .left) e, sight-kept s (a .place .round .0) (anchorRound (a .base) (a .place .round .0)) (a .carried) (length (a .work .now)) (a .work .now) xs (c .before .before .before .before .before .before .before .before .before .before .before .before .before .before .before .before .before .pre .0) (c .before .before .before .anchor-round .result .0) (c .before .before .before .anchor-round .ensures) (a .carried .past) (a .work .now) (c .before .before .before .before .before .before .before .before .before .before .before .before .before .before .before .before .before .pre .0 .held) (c .before .before .look .result) (c .before .before .look .ensures .1))
 
 deciding-round-requires : tie.Need-deciding-round-requires
 deciding-round-requires c κs = search needs
@@ -69,8 +69,8 @@ returns-3 c =
     let xs = statusesOf (a .later .now) in
     let r = c .before .before .before .before .mark-past .result in
     let w = c .before .before .before .before .mark-past .last .1 .1 .1 .1 .1 .1 .1 .0 in
-    let e = indirect-found s (a .order .now) (length (a .work .now)) (a .stakes .now) (a .floor .0) (a .base) (a .place .authority .0) (a .place .round .0) xs (c .before .before .before .before .before .before .before .before .before .before .look .result .anchor) (c .before .before .before .before .before .before .before .before .before .before .look .ensures .0 ∙ ap (λ (n : ℕ). anchorOf n xs) (c .before .before .before .before .before .before .before .before .before .before .before .anchoring-round .ensures)) _ (r .low .0) w (c .decision-by-marks .result) (c .before .before .before .before .before .before .before .before .found .given .1) (omega (arith, c .before .before .before .before .mark-past .ensures .0 .1, c .before .before .before .before .before .before .deciding-round .ensures)) (holds-for s r _ (length (a .work .now)) w (c .before .before .before .before .mark-past .ensures .0 .0) (c .before .before .before .before .mark-past .ensures .1)) (c .decision-by-marks .ensures) in
-    (ruled-indirect s (a .order .now) (c .before .before .before .before .before .before .before .before .before .before .before .before .before .before .before .before .before .before .before .before .before .before .before .before .before .pre .1) (linkedIn s (length (a .work .now))) (a .stakes .now) (a .floor .0) (a .base) (a .place .authority .0) (a .place .round .0) xs (c .before .before .before .before .before .before .before .before .before .before .before .before .before .before .before .before .direct-decision .result) (c .before .before .before .before .before .before .before .before .before .before .before .before .before .before .before .before .direct-decision .ensures) (c .before .before .before .before .before .before .before .before .before .before .before .before .before .before .before .is-ruled .result) (c .before .before .before .before .before .before .before .before .before .before .before .before .before .before .before .is-ruled .ensures) (c .decision-by-marks .result) (c .before .before .before .before .before .before .before .before .before .before .before .before .before .before .if1 .left) e, sight-kept s (a .place .round .0) (anchorRound (a .base) (a .place .round .0)) (a .carried) (length (a .work .now)) (a .work .now) xs (c .before .before .before .before .before .before .before .before .before .before .before .before .before .before .before .before .before .before .before .before .before .before .before .before .before .pre .0) (c .before .before .before .before .before .before .before .before .before .before .before .anchoring-round .result .0) (c .before .before .before .before .before .before .before .before .before .before .before .anchoring-round .ensures) r w (c .before .before .before .before .mark-past .ensures .1) (c .before .before .before .before .before .before .before .before .before .before .look .result) (c .before .before .before .before .before .before .before .before .before .before .look .ensures .1))
+    let e = indirect-found s (a .order .now) (length (a .work .now)) (a .stakes .now) (a .floor .0) (a .base) (a .place .authority .0) (a .place .round .0) xs (c .before .before .before .before .before .before .before .before .before .before .look .result .anchor) (c .before .before .before .before .before .before .before .before .before .before .look .ensures .0 ∙ ap (λ (n : ℕ). anchorOf n xs) (c .before .before .before .before .before .before .before .before .before .before .before .anchor-round .ensures)) _ (r .low .0) w (c .decision-by-marks .result) (c .before .before .before .before .before .before .before .before .found .given .1) (omega (arith, c .before .before .before .before .mark-past .ensures .0 .1, c .before .before .before .before .before .before .deciding-round .ensures)) (holds-for s r _ (length (a .work .now)) w (c .before .before .before .before .mark-past .ensures .0 .0) (c .before .before .before .before .mark-past .ensures .1)) (c .decision-by-marks .ensures) in
+    (ruled-indirect s (a .order .now) (c .before .before .before .before .before .before .before .before .before .before .before .before .before .before .before .before .before .before .before .before .before .before .before .before .before .pre .1) (linkedIn s (length (a .work .now))) (a .stakes .now) (a .floor .0) (a .base) (a .place .authority .0) (a .place .round .0) xs (c .before .before .before .before .before .before .before .before .before .before .before .before .before .before .before .before .direct-decision .result) (c .before .before .before .before .before .before .before .before .before .before .before .before .before .before .before .before .direct-decision .ensures) (c .before .before .before .before .before .before .before .before .before .before .before .before .before .before .before .is-ruled .result) (c .before .before .before .before .before .before .before .before .before .before .before .before .before .before .before .is-ruled .ensures) (c .decision-by-marks .result) (c .before .before .before .before .before .before .before .before .before .before .before .before .before .before .if1 .left) e, sight-kept s (a .place .round .0) (anchorRound (a .base) (a .place .round .0)) (a .carried) (length (a .work .now)) (a .work .now) xs (c .before .before .before .before .before .before .before .before .before .before .before .before .before .before .before .before .before .before .before .before .before .before .before .before .before .pre .0) (c .before .before .before .before .before .before .before .before .before .before .before .anchor-round .result .0) (c .before .before .before .before .before .before .before .before .before .before .before .anchor-round .ensures) r w (c .before .before .before .before .mark-past .ensures .1) (c .before .before .before .before .before .before .before .before .before .before .look .result) (c .before .before .before .before .before .before .before .before .before .before .look .ensures .1))
 
 pub ruled-spec : {M : Type 1} → statement M
 ruled-spec =
@@ -79,7 +79,7 @@ ruled-spec =
     direct-decision-requires
     is-ruled-requires
     returns
-    anchoring-round-requires
+    anchor-round-requires
     look-requires
     enum-known-found
     enum-told

@@ -5,10 +5,10 @@ use lib.ListN.{length, take, replicate}
 use lib.Seq.{length-take-le}
 use mathlib.Core.List.{List}
 use mathlib.Core.Path.{refl, sym, ap, _∙_}
 use Rattle.plan.proofs.Passing.{front-rows, passed-plan, empty-plan, empty-places}
 use Rattle.plan.specs.Planned.{placesFrom, passes}
-use Rattle.plan.proofs.making.tested_rows.Statement.{statement}
-use Rattle.plan.proofs.making.tested_rows.Tie as tie
+use Rattle.block_manager.proofs.making.tested_rows.Statement.{statement}
+use Rattle.block_manager.proofs.making.tested_rows.Tie as tie
 
 clear-entries-requires : tie.Need-clear-entries-requires
 clear-entries-requires c κs = search needs

@@ -3,9 +3,9 @@ use borrow.Author.Needs.{needs}
 use borrow.Author.Tests.{not-true, not-false}
 use lib.ListN.{length}
 use mathlib.Core.Path.{sym, _∙_}
 use Rattle.plan.proofs.Passing.{fails-apart, fails-leaves, passes-last}
-use Rattle.plan.proofs.making.is_tested.Statement.{statement}
-use Rattle.plan.proofs.making.is_tested.Tie as tie
+use Rattle.block_manager.proofs.making.is_tested.Statement.{statement}
+use Rattle.block_manager.proofs.making.is_tested.Tie as tie
 
 place-rows-requires : tie.Need-place-rows-requires
 place-rows-requires c κs = search needs

@@ -3,9 +3,9 @@ use Prim.Native.Nat.{ℕ}
 use borrow.Author.Needs.{needs}
 use lib.ListN.{take, replicate}
 use mathlib.Core.Path.{sym, ap, _∙_}
 use Rattle.plan.specs.Planned.{placesFrom, isPlan}
-use Rattle.plan.proofs.making.make_plan.Statement.{statement}
-use Rattle.plan.proofs.making.make_plan.Tie as tie
+use Rattle.block_manager.proofs.making.make_plan.Statement.{statement}
+use Rattle.block_manager.proofs.making.make_plan.Tie as tie
 
 clear-entries-requires : tie.Need-clear-entries-requires
 clear-entries-requires c κs = search needs

@@ -1,15 +1,15 @@
 // A plan of what the last stored row lets in, proposed and tested.
 use crate::propose::propose;
-use crate::tests::clear_entries;
-use crate::tests::follows;
-use crate::tests::left_lack;
-use crate::tests::place_rows;
 use block_store::sound::MAX_BLOCKS;
+use plan::tests::clear_entries;
+use plan::tests::follows;
+use plan::tests::left_lack;
+use plan::tests::place_rows;
 ghost use mathlib.Core.Bool.{true};
 ghost use mathlib.Core.Path.{_≡_};
 ghost use Prim.Native.Nat.{_≤_};
 ghost use lib.ListN.{length, take, replicate};
 ghost use Rattle.plan.specs.Planned.{placesFrom, passes, isPlan};
 
 // Whether a plan passes the tests. `place` has the places of its rows then.
 fn is_tested(
@@ -135,7 +135,7 @@ fn proposed(
 
 // A plan of what the last stored row lets in: how many rows of `moves` it has, 0 where none was found that passes the tests. `place` has the
 // places of its rows then, and `links` is zero; both are work areas, of one entry and of two for each pending row.
-pub fn make_plan(
+pub(crate) fn make_plan(
     blocks: &[u64],
     order: &[u16],
     base: usize,
