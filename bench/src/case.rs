@@ -138,7 +138,8 @@ impl Case<'_> {
         let block = self.original.blocks[row].clone();
         let (grown, theirs) = self.meter.measure(|| self.original.add_block(block));
         let mut t = self.dag.tables(row);
-        let (sound, test) = self.meter.measure(|| ours::tables_are_sound(self.size(), &t));
+        let (sound, test) =
+            self.meter.measure(|| ours::committee_is_sound(&self.stakes) && ours::tables_are_sound(self.size(), &t));
         assert!(sound);
         let reference = self.dag.rows[row].reference();
         let includes = &self.dag.rows[row].includes;
@@ -203,7 +204,7 @@ impl Case<'_> {
                 let remembered = ours.remembered(reply.second as usize);
                 ((reply.code, ours.area, remembered), cost)
             },
-            || fresh.tables_are_sound(self.size(), t),
+            || ours::committee_is_sound(&self.stakes) && fresh.tables_are_sound(self.size(), t),
         )
     }
 

@@ -26,6 +26,7 @@ macro_rules! lent {
 
 #[rustfmt::skip]
 extern "C" {
+    fn zhudrabel_committee_is_sound(s: *const u64, sl: usize) -> bool;
     fn zhudrabel_store_is_sound(size: u64, b: *const u64, bl: usize, i: *const u64, il: usize, stored: usize) -> bool;
     fn zhudrabel_tables_are_sound(size: u64, b: *const u64, bl: usize, i: *const u64, il: usize, stored: usize, w: *const u64, wl: usize, n: *const u64, nl: usize, pending: usize) -> bool;
     fn zhudrabel_memory_is_sound(size: u64, b: *const u64, bl: usize, stored: usize, memory: *const u64, ml: usize, decided: usize) -> bool;
@@ -35,6 +36,11 @@ extern "C" {
     fn zhudrabel_add_block(s: *const u64, sl: usize, b: *mut u64, bl: usize, i: *mut u64, il: usize, stored: usize, w: *mut u64, wl: usize, n: *mut u64, nl: usize, pending: usize, block: *const u64, kl: usize, list: *const u64, ll: usize) -> OfferReply;
     fn zhudrabel_try_commit(s: *const u64, sl: usize, wave_length: u64, leaders: u64, pipelined: bool, b: *const u64, bl: usize, i: *const u64, il: usize, stored: usize, memory: *mut u64, ml: usize, decided: usize, last_authority: u64, last_round: u64, threshold: u64, area: *mut u64, al: usize, work: *mut u8, wl: usize) -> Reply;
     fn zhudrabel_handle_commit(b: *const u64, bl: usize, i: *const u64, il: usize, stored: usize, leaders: *const u64, ll: usize, order: *mut u64, ol: usize, ends: *mut u64, el: usize, work: *mut u64, wl: usize, flags: *mut u8, fl: usize) -> Reply;
+}
+
+/// The making and the test of a committee, which each call that takes stakes begins with.
+pub fn committee_is_sound(stakes: &[u64]) -> bool {
+    unsafe { zhudrabel_committee_is_sound(stakes.as_ptr(), stakes.len()) }
 }
 
 pub fn store_is_sound(size: u64, t: &Tables) -> bool {

@@ -4,7 +4,7 @@
 mod offering; // offers
 mod ordering; // decisions and sub-DAGs
 mod replies; // what a call answers, in words
-mod storing; // the tests of the tables, and queries
+mod storing; // the tests of what calls are lent, and queries
 
 // What a call answers: the code is 0 or the number sent back, and then the values are 0.
 #[repr(C)]

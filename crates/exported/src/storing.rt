@@ -1,14 +1,17 @@
-// The tests of the tables, and queries: block_store, block_tables, linked and store_queries.
+// The tests of what calls are lent, and queries: committee, block_store, block_tables, linked and store_queries.
 use crate::Reply;
 use crate::replies::answer_reply;
+use crate::replies::committee_of;
 use crate::replies::rows_reply;
 use block_store::sound::store_is_sound;
 use block_tables::sound::tables_are_sound;
+use committee::parts::is_sound;
 use linked::linked;
 use store_queries::get_blocks_by_round;
 use types::RoundNumber;
 ghost use mathlib.Core.Path.{_≡_};
 ghost use lib.ListN.{length, replicate};
+ghost use Rattle.committee.specs.Committees.{newCommittee, soundOf};
 ghost use Rattle.block_store.specs.Store.{storeOf};
 ghost use Rattle.block_store.specs.Sound.{soundStore};
 ghost use Rattle.block_tables.specs.Words.{tablesOf};
@@ -16,6 +19,14 @@ ghost use Rattle.block_tables.specs.Sound.{soundTables};
 ghost use Rattle.linked.specs.Linked.{linkedAnswer};
 ghost use Rattle.store_queries.specs.Queries.{getBlocksByRound, areaByRound};
 ghost use Rattle.exported.specs.Replies.{replyOf};
+
+// Whether there is a committee of these stakes: made and tested, as each call that takes stakes does first.
+#[no_mangle]
+pub extern "C" fn zhudrabel_committee_is_sound(stakes: &[u64]) -> bool
+    ensures { λ r. ⌜ r ≡ soundOf (newCommittee (now (stakes .entry))) ⌝ }
+{
+    is_sound(committee_of(stakes))
+}
 
 // Whether the stored tables are sound, with authorities below `size`.
 #[no_mangle]
