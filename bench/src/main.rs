@@ -1,9 +1,9 @@
 //! The port's calls against the original text, in one process, on the same DAGs. `bench/run` builds and runs it.
 //!
-//!     bench times     the table of times, and of instructions where the machine counts them
-//!     bench counts    the table of instructions under callgrind
-//!     bench release   how long an offer takes that lets in all that waits
-//!     bench stack     the stack that each call needs at the largest tables
+//!     bench times [BLOCKS]    the table of times, and of instructions where the machine counts them, up to so many blocks
+//!     bench counts            the table of instructions under callgrind
+//!     bench release           how long an offer takes that lets in all that waits
+//!     bench stack             the stack that each call needs at the largest tables
 
 mod case;
 mod dag;
@@ -25,12 +25,18 @@ const COUNTED_BLOCKS: [usize; 1] = [1_000];
 
 fn main() {
     match std::env::args().nth(1).as_deref() {
-        Some("times") => tables(&Meter::of_the_machine(), &BLOCKS),
+        Some("times") => tables(&Meter::of_the_machine(), &up_to(std::env::args().nth(2))),
         Some("counts") => tables(&Meter::of_callgrind(), &COUNTED_BLOCKS),
         Some("release") => release::print(),
         Some("stack") => stack::print(),
-        _ => println!("bench times | counts | release | stack"),
+        _ => println!("bench times [BLOCKS] | counts | release | stack"),
     }
+}
+
+/// The sizes of the DAGs up to the one named, or all of them.
+fn up_to(named: Option<String>) -> Vec<usize> {
+    let most = named.map_or(usize::MAX, |number| number.parse().expect("a number of blocks"));
+    BLOCKS.into_iter().filter(|blocks| *blocks <= most).collect()
 }
 
 fn tables(meter: &Meter, sizes: &[usize]) {
