@@ -55,6 +55,26 @@ pub fn long_wave(prng: &mut Prng) -> World {
     World { setting, blocks: dag.blocks }
 }
 
+/// A DAG of few authorities and many rounds: about 80 to 126 blocks, as far as there is room.
+pub fn many(prng: &mut Prng) -> World {
+    let size = *prng.pick(&[1, 2, 3, 4, 7, 40]);
+    let wave_length = prng.from(4, 6);
+    let pipelined = prng.chance(65);
+    let mut setting = header::with(prng, size, wave_length, pipelined);
+    let authors = setting.active.len().min(prng.from(1, 3) as usize);
+    for other in setting.active.drain(authors..) {
+        setting.header.stakes[other as usize] = 1;
+    }
+    let rounds = prng.from(80, 126) / authors as u64;
+    setting.header.leaders = setting.header.leaders.min(126 / rounds);
+    let mut habits = Habits::any(prng);
+    (habits.present, habits.strong) = (*prng.pick(&[100, 100, 90]), *prng.pick(&[100, 90, 75]));
+    (habits.twin, habits.empty) = (habits.twin.min(10), habits.empty.min(5));
+    let mut dag = Dag::new(prng);
+    dag.grow(prng, &setting, &habits, 0, rounds);
+    World { setting, blocks: dag.blocks }
+}
+
 /// A DAG, then a block far above it.
 pub fn jump(prng: &mut Prng) -> World {
     let setting = header::any(prng);

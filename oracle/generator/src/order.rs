@@ -19,6 +19,27 @@ pub fn arrival(prng: &mut Prng, mut blocks: Vec<Block>) -> Vec<Block> {
     blocks
 }
 
+/// The blocks in some order, but one of the first and perhaps some others only near the end, or never.
+pub fn held_back(prng: &mut Prng, mut blocks: Vec<Block>) -> Vec<Block> {
+    let mut held = vec![];
+    for among in [4, 30, 128].into_iter().take(prng.from(1, 3) as usize) {
+        let place = prng.below(among.min(blocks.len() as u64)) as usize;
+        held.push(blocks.remove(place));
+    }
+    match prng.below(4) {
+        0 => {}
+        1 => prng.shuffle(&mut blocks),
+        _ => blocks.reverse(),
+    }
+    prng.shuffle(&mut held);
+    held.retain(|_| !prng.chance(8));
+    for block in held {
+        let after = if prng.chance(60) { 0 } else { prng.below(12) as usize };
+        blocks.insert(blocks.len() - after, block);
+    }
+    blocks
+}
+
 /// Turns a stretch around.
 fn reverse_stretch(prng: &mut Prng, blocks: &mut [Block]) {
     let end = blocks.len() as u64;

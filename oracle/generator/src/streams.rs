@@ -15,7 +15,8 @@ use crate::{
 pub fn case(seed: u64, index: u64) -> Case {
     let prng = &mut Prng::new(seed, index);
     let shapes: &[(u64, Shape)] = &[
-        (50, |prng| offered(prng, dags::rounds)),
+        (44, |prng| offered(prng, dags::rounds)),
+        (6, late),
         (8, |prng| offered(prng, dags::small)),
         (6, |prng| offered(prng, dags::long_wave)),
         (4, star),
@@ -54,6 +55,16 @@ fn star(prng: &mut Prng) -> Stream {
     let root = offers.remove(0);
     prng.shuffle(&mut offers);
     offers.push(root);
+    Stream { header: setting.header, offers }
+}
+
+/// Many blocks of which most wait for a few that come late, if at all.
+fn late(prng: &mut Prng) -> Stream {
+    let World { setting, blocks } = dags::many(prng);
+    let mut offers = order::held_back(prng, blocks);
+    if prng.chance(60) {
+        order::disturb(prng, setting.size(), &mut offers);
+    }
     Stream { header: setting.header, offers }
 }
 

@@ -27,6 +27,9 @@ pub struct Manager {
 const BAD_ARGUMENT: u64 = 4;
 const FULL: u64 = 5;
 
+/// With more waiting blocks than so many, some mistakes show.
+const MANY: usize = 64;
+
 impl Manager {
     /// An empty manager with room for so many blocks and includes.
     pub fn new(size: u64, blocks: usize, includes: usize, mistake: Mistake) -> Self {
@@ -142,8 +145,11 @@ impl Manager {
             self.pending.push(block);
             return Verdict::Pending;
         }
-        let before = self.stored.len();
+        let (before, many) = (self.stored.len(), self.pending.len() > MANY);
         self.store(block, 0);
+        if many && self.stored.len() > before + 1 {
+            self.spoil_long_release(before + 1);
+        }
         let growth = self.stored.len() - before;
         Verdict::Stored(match self.mistake {
             Mistake::GrowthIsOne => 1,
@@ -165,6 +171,7 @@ impl Manager {
             Mistake::OneLevelReleased if depth == 1 => {}
             Mistake::BreadthFirstRelease => self.release_breadth_first(reference),
             Mistake::ReleaseOverAllPending => self.release_by_passes(),
+            Mistake::LongReleaseByPasses if self.pending.len() > MANY => self.release_by_passes(),
             _ => self.release(&reference, depth),
         }
     }
@@ -176,6 +183,21 @@ impl Manager {
             if self.mistake == Mistake::FirstFollowerOnly {
                 break;
             }
+        }
+    }
+
+    /// What mistakes do where the rows from `first` on were released from among many.
+    fn spoil_long_release(&mut self, first: usize) {
+        let cut = |block: &mut Block| block.includes.truncate(1);
+        match self.mistake {
+            Mistake::LongReleaseStops => {
+                let stopped = self.stored.split_off(self.stored.len().min(first + MANY));
+                self.pending.extend(stopped);
+            }
+            Mistake::LongReleaseCutsNew => self.stored[first..].iter_mut().for_each(cut),
+            Mistake::LongReleaseCutsLeft => self.pending.iter_mut().for_each(cut),
+            Mistake::LongReleaseTurnsLeft => self.pending.reverse(),
+            _ => {}
         }
     }
 

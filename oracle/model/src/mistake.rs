@@ -181,6 +181,11 @@ mistakes! {
         FlagsOfCallOnly: "each call starts with fresh flags",
         LeaderAlone: "a sub-DAG has the leader and its includes only",
         RoundFirst: "positions are printed round first",
+        LongReleaseStops: "where more than 64 blocks wait, only 64 go in",
+        LongReleaseByPasses: "where more than 64 blocks wait, those that go in do so by passes over all of them",
+        LongReleaseCutsNew: "where more than 64 blocks wait, those that go in keep their first include only",
+        LongReleaseCutsLeft: "where more than 64 blocks wait, those that stay keep their first include only",
+        LongReleaseTurnsLeft: "where more than 64 blocks wait, those that stay stand last first",
     }
     calls {
         AbsentIsWhole: "the list is whole if the last decided position is absent",

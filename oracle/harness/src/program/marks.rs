@@ -61,6 +61,12 @@ pub const REACH: &[&str] = &[
     "waiting chain of 8 and more",
     "waiting star of 8 and more",
     "followers before the next waiter",
+    "of more than 64 waiting none goes in",
+    "of more than 64 waiting some go in",
+    "of more than 64 waiting all go in",
+    "more than 64 go in",
+    "more than 64 go in: a chain",
+    "more than 64 go in: with twins",
     "repeated include",
     "weak link",
     "include with two twins",
@@ -88,6 +94,9 @@ pub const REACH: &[&str] = &[
     "try_commit refused 7: pipelined",
     "try_commit refused 8",
 ];
+
+/// A port may release more waiting blocks than so many in another way.
+const MANY: usize = 64;
 
 pub(super) fn mark_header(header: &Header, reach: &mut Reach) {
     let stakes = &header.stakes;
@@ -162,6 +171,7 @@ impl Program {
                 reach.mark_if(growth == 1, "stored alone");
                 reach.mark_if(growth >= 8, "growth of 8 and more");
                 mark_release(&self.offers.stored, growth, reach);
+                mark_long_release(&self.offers.stored, growth, self.offers.pending.len(), reach);
             }
         }
         reach.mark_if(blocks == ROOM.blocks, "exactly full: blocks");
@@ -233,11 +243,36 @@ fn mark_release(stored: &[Block], growth: usize, reach: &mut Reach) {
     reach.mark_if(gap, "followers before the next waiter");
 }
 
+/// Marks how many waiting blocks the first of the last `growth` rows let in, where there were many; `left` stay.
+fn mark_long_release(stored: &[Block], growth: usize, left: usize, reach: &mut Reach) {
+    let released = &stored[stored.len() - growth + 1..];
+    if released.len() + left <= MANY {
+        return;
+    }
+    reach.mark(match (released.len(), left) {
+        (0, _) => "of more than 64 waiting none goes in",
+        (_, 0) => "of more than 64 waiting all go in",
+        _ => "of more than 64 waiting some go in",
+    });
+    if released.len() > MANY {
+        let chain = released.windows(2).all(|pair| pair[1].includes.contains(&pair[0].reference));
+        let references: Vec<_> = released.iter().map(|block| block.reference).collect();
+        reach.mark("more than 64 go in");
+        reach.mark_if(chain, "more than 64 go in: a chain");
+        reach.mark_if(with_twins(&references), "more than 64 go in: with twins");
+    }
+}
+
+/// Whether two different references are of one position.
+fn with_twins(references: &[Reference]) -> bool {
+    let twins = |a: &Reference, b: &Reference| (a.authority, a.round) == (b.authority, b.round) && a.digest != b.digest;
+    references.iter().any(|a| references.iter().any(|b| twins(a, b)))
+}
+
 fn mark_offer(offer: &Block, reach: &mut Reach) {
     let includes = &offer.includes;
     let repeated = (1..includes.len()).any(|i| includes[..i].contains(&includes[i]));
-    let twins = |a: &Reference, b: &Reference| (a.authority, a.round) == (b.authority, b.round) && a.digest != b.digest;
-    let both = includes.iter().any(|a| includes.iter().any(|b| twins(a, b)));
+    let both = with_twins(includes);
     let weak = includes.iter().any(|include| include.round + 1 < offer.reference.round);
     reach.mark_if(repeated, "repeated include");
     reach.mark_if(both, "include with two twins");
