@@ -20,9 +20,8 @@ use Rattle.base_committer.specs.declared.indirect.Anchor.{Anchor}
 use Rattle.base_committer.specs.declared.indirect.Anchor.the-variants.{At, Nothing}
 use Rattle.base_committer.specs.declared.options.BaseCommitterOptions.{BaseCommitterOptions}
 use Rattle.base_committer.specs.declared.waves.Elected.{Elected}
-use Rattle.block_store.proofs.Soundness.{sound}
-use Rattle.block_store.proofs.Twins.{distinct-keys, sound-split}
-use Rattle.block_store.specs.Sound.{soundButTwins, soundStore}
+use Rattle.block_store.proofs.Ordered.{too-many-rows}
+use Rattle.block_store.specs.Sound.{soundStore}
 use Rattle.block_store.specs.Store.{Store}
 use Rattle.committee.proofs.Committees.{judged-sound, judged-unsound}
 use Rattle.committee.specs.Committees.{soundOf, stakeWords}
@@ -33,15 +32,13 @@ use Rattle.consensus.specs.Sound.{SoundStatuses, soundStatuses, statusField}
 use Rattle.consensus.specs.Statuses.{at, statusWords, commitKind, skipKind, statusOf, statusAt, statusesOf}
 use Rattle.consensus.specs.declared.status.LeaderStatus.{LeaderStatus}
 use Rattle.consensus.specs.declared.status.LeaderStatus.the-variants.{Commit, Skip, Undecided}
-use Rattle.index.proofs.Searching.{indexed, index-says}
 use Rattle.index.specs.Keys.{referenceKey}
-use Rattle.index.specs.Places.{hasRoom, orderedRows, frontAfter}
 use Rattle.index.specs.Rounds.{roundIs, rowsOfRound}
 use Rattle.index.specs.Search.{Indexed}
 use Rattle.linked.proofs.Laws.{linked-in}
 use Rattle.linked.specs.Linked.{linked, linkedIn}
 use Rattle.support.specs.Quorums.{keep, roundRows}
-use Rattle.types.proofs.Tests.{both, both-left, both-right, by-test, fails}
+use Rattle.types.proofs.Tests.{both, both-left, both-right, by-test}
 use Rattle.types.specs.Below.{rowsBelow}
 use Rattle.types.specs.Limits.{roundLimit, maxBlocks}
 use Rattle.types.specs.Reports.{Report, Refuses}
@@ -111,25 +108,10 @@ module _ (c : Committee) (o : BaseCommitterOptions) (s : Store) (leader round : 
 
   -- more rows than a table has
   pub no-rows : (rule : Rule) → Admitted c o → maxBlocks < s .count → Refuses 3 ≡ answerBy rule c o s leader round words room
-  no-rows rule ad h =
-      no-table rule ad (fails (soundStore (c .size) s) (λ e. let b = sound (c .size) s e in omega (arith, b .rows-used, b .few-rows)))
+  no-rows rule ad h = no-table rule ad (too-many-rows (c .size) s h)
 
   pub by-rule : (rule rule′ : Rule) (r : Report) → rule ≡ rule′ → r ≡ answerBy rule′ c o s leader round words room → r ≡ answerBy rule c o s leader round words room
   by-rule rule rule′ r e er = er ∙ ap (λ (x : Rule). answerBy x c o s leader round words room) (sym e)
-
--- the test that sorts the rows: where there is room it is the test of the tables, and leaves the rows in order
-module _ (size : ℕ) (s : Store) (rows work : ℕ) (t : Bool) (few : s .count ≤ maxBlocks) (fits : s .count ≤ rows) (wide : s .count ≤ work)
-    (et : t ≡ (hasRoom (s .count) rows work && soundStore size s)) where
-  pub tables-are : t ≡ soundStore size s
-  tables-are = index-says (s .count) rows work (soundStore size s) t few fits wide et .1
-
-  pub in-order : (area order : List ℕ) → t ≡ true
-      → order ≡ frontAfter (hasRoom (s .count) rows work) (s .count) (orderedRows (referenceKey (s .blocks)) (s .count)) area
-      → Indexed (referenceKey (s .blocks)) (s .count) order
-  in-order area order e eo =
-      indexed (referenceKey (s .blocks)) (s .count) (hasRoom (s .count) rows work) area order
-      (index-says (s .count) rows work (soundStore size s) t few fits wide et .0)
-      (distinct-keys (s .blocks) (s .count) ∙ both-right (soundButTwins size s) _ (sym (sound-split size s) ∙ sym tables-are ∙ e)) eo
 
 -- ---- the direct decision, behind those tests
 

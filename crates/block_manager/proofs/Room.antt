@@ -1,7 +1,8 @@
 -- Room for one more block: the words behind the used ones are 0, and to write and to clear them again changes nothing. Assumes nothing.
 use Prim.Native.Nat.{ℕ, zero, suc, _+_, _-_, _≤_, _<_}
-use lib.ListN.{length, set, replicate, length-replicate, length-append, replicate-append-replicate}
-use lib.Seq.{sets, set-set, set-comm}
+use borrow.Rule.Slice.PartMut.{midOf, postOf, putMid, mid-len, post-is}
+use lib.ListN.{length, take, drop, set, replicate, length-replicate, length-append, replicate-append-replicate}
+use lib.Seq.{sets, sets-eq, set-set, set-comm}
 use mathlib.Core.Bool.{Bool, true, false, cond}
 use mathlib.Core.List.{List, _++_, map, append-assoc}
 use mathlib.Core.Path.{_≡_, sym, ap, _∙_, subst}
@@ -18,23 +19,16 @@ use Rattle.offers.specs.Blocks.{Block, held, named}
 use Rattle.offers.specs.Climb.{rowOf}
 use Rattle.types.specs.declared.reference.BlockReference.{BlockReference}
 
--- cleared word by word
-pub erase-start : (w : List ℕ) (at n : ℕ) → sets w (at + 0) (replicate (n - 0) 0) ≡ sets w at (replicate n 0)
-erase-start w at n =
-    let e : n - 0 ≡ n = omega arith in
-    let q : at + 0 ≡ at = omega arith in
-    ap (λ (k : ℕ). sets w (at + 0) (replicate k 0)) e ∙ ap (λ (j : ℕ). sets w j (replicate n 0)) q
-
-pub erase-next : (w : List ℕ) (at i n : ℕ) → i < n → sets w (at + i) (replicate (n - i) 0) ≡ sets (set w (at + i) 0) (at + (i + 1)) (replicate (n - (i + 1)) 0)
-erase-next w at i n h =
-    let e : n - i ≡ suc (n - (i + 1)) = omega arith in
-    let q : suc (at + i) ≡ at + (i + 1) = omega arith in
-    ap (λ (k : ℕ). sets w (at + i) (replicate k 0)) e ∙ ap (λ (j : ℕ). sets (set w (at + i) 0) j (replicate (n - (i + 1)) 0)) q
-
-pub erase-end : (w : List ℕ) (at i n : ℕ) → n ≤ i → sets w (at + i) (replicate (n - i) 0) ≡ w
-erase-end w at i n h =
-    let e : n - i ≡ 0 = omega arith in
-    ap (λ (k : ℕ). sets w (at + i) (replicate k 0)) e
+-- a part of n words is cleared
+pub part-cleared : (w : List ℕ) (at n : ℕ) → at + n ≤ length w → putMid at (at + n - at) w (replicate (length (midOf at (at + n - at) w)) 0) ≡ sets w at (replicate n 0)
+part-cleared w at n h =
+    let k : at + n - at ≡ n = omega arith in
+    ap (λ (j : ℕ). take at w ++ (replicate j 0 ++ postOf at (at + n - at) w)) (mid-len at (at + n) w h ∙ k)
+    ∙ ap (λ (l : List ℕ). take at w ++ (replicate n 0 ++ l)) (post-is at (at + n) w (omega arith))
+    ∙ sym
+    (sets-eq (replicate n 0) w at (omega (arith, length-replicate {A = ℕ} n 0))
+    ∙ ap (λ (j : ℕ). (take at w ++ replicate n 0) ++ drop (at + j) w) (length-replicate {A = ℕ} n 0)
+    ∙ append-assoc (take at w) (replicate n 0) (drop (at + n) w))
 
 -- what is written is cleared
 pub set-cleared : (w : List ℕ) (at k n v : ℕ) → k < n → sets (set w (at + k) v) at (replicate n 0) ≡ sets w at (replicate n 0)

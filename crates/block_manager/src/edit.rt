@@ -7,12 +7,13 @@ use block_tables::parts::put_reference;
 use block_tables::parts::reference_in;
 use types::BlockReference;
 use types::reference::REFERENCE_WORDS;
+use types::words::clear;
 use types::words::word;
 ghost use mathlib.Core.Path.{_≡_};
 ghost use mathlib.Core.Bool.{true, false, cond};
 ghost use mathlib.Core.List.{map, [], _∷_, _++_};
 ghost use Prim.Native.Nat.{suc, _+_, _*_, _-_, _/_, _≤_};
-ghost use lib.ListN.{length, take, drop, replicate};
+ghost use lib.ListN.{length, take, drop};
 ghost use lib.Seq.{sets};
 ghost use Rattle.types.specs.Limits.{blockWords, referenceWords};
 ghost use Rattle.types.specs.References.{refsIn};
@@ -48,18 +49,6 @@ fn put_words(w: &mut [u64], at: usize, list: &[u64])
     }
 }
 
-// Clears n words from `at` on.
-fn erase(w: &mut [u64], at: usize, n: usize)
-    requires { ⌜ at + n ≤ length (now w) ⌝ }
-    ensures { λ _. ⌜ now (w .exit) ≡ sets (now (w .entry)) at (replicate n 0) ⌝ }
-{
-    let mut i = 0;
-    while i < n {
-        w[at + i] = 0;
-        i += 1;
-    }
-}
-
 // Writes, from `at` on where all is 0, the rows of the references of a list, if each has one; `order` has the first `sorted` rows in order.
 fn put_rows(
     includes: &mut [u64],
@@ -81,7 +70,7 @@ fn put_rows(
         let x = reference_in(list, k);
         let row = row_in(blocks, order, sorted, stored, x);
         if stored <= row {
-            erase(includes, at, n);
+            clear(&mut includes[at..at + n]);
             return false;
         }
         includes[at + k] = row as u64;

@@ -1,7 +1,7 @@
 -- Keys of status rows are positions: the plain test of positions is that of keys, and a memory may be tested by its rows in order. Assumes nothing.
 use Prim.Native.Nat.{ℕ, zero, suc, _+_, _*_, _≤_, _<_}
-use borrow.Author.Tests.{eq-eqb, eqb-true, le-leb}
-use lib.Dec.{eqb, leb}
+use borrow.Author.Tests.{eq-eqb, eqb-true}
+use lib.Dec.{eqb}
 use lib.ListN.{getD, take, replicate}
 use lib.Seq.{getD-take}
 use mathlib.Core.Bool.{Bool, true, false, not, _&&_}
@@ -13,13 +13,12 @@ use Rattle.consensus.specs.Sound.{statusField, samePosition, otherPositi
 use Rattle.consensus.specs.Statuses.{statusWords}
 use Rattle.index.proofs.Same.{all-ext}
 use Rattle.index.specs.Keys.{wordsFrom, keyAt, positionKey, comesBefore, sharesKey, otherKey, newKey, distinctKeys}
-use Rattle.index.specs.Places.{beforeFlag, placeOf, putRows, inOrder, hasRoom}
+use Rattle.index.specs.Places.{beforeFlag, placeOf, putRows, inOrder}
 use Rattle.index.specs.Search.{Indexed}
 use Rattle.types.proofs.Below.{sum-ext}
 use Rattle.types.proofs.References.{order-equal, order-self}
 use Rattle.types.proofs.Tests.{both, both-left, both-right, same-test}
 use Rattle.types.specs.Below.{allBelow}
-use Rattle.types.specs.Limits.{maxBlocks}
 use Rattle.types.specs.References.{orderOf}
 
 -- a position as a key
@@ -52,10 +51,6 @@ module _ (rows : List ℕ) where
   distinct-positions n = all-ext (newKey (positionKey rows)) (newPosition rows) n (λ i l. new-key i)
 
 -- ---- a memory by its rows in order
-
-pub room-left : (n rows work : ℕ) → n ≤ maxBlocks → n ≤ rows → leb n work ≡ hasRoom n rows work
-unfolding hasRoom
-room-left n rows work a b = rw (le-leb n maxBlocks a, le-leb n rows b) refl
 
 module _ (size : ℕ) (blocks : List ℕ) (stored : ℕ) (rows : List ℕ) (n : ℕ) (room t : Bool) (er : room ≡ true) (et : t ≡ (room && distinctKeys (positionKey rows) n)) where
   told : t ≡ allBelow (newPosition rows) n

@@ -6,7 +6,7 @@ use crate::parts::STATUS_WORDS;
 use crate::parts::UNDECIDED;
 use block_store::parts::is_at;
 use block_store::sound::zero_from;
-use index::build::MAX_BLOCKS;
+use index::build::has_room;
 use index::build::index_positions;
 use index::build::positions_are_distinct;
 use types::AuthorityIndex;
@@ -148,19 +148,6 @@ pub fn memory_is_sound(
         return false;
     }
     positions_differ(memory, count)
-}
-
-// Whether areas of these lengths have room for so many rows in order.
-pub fn has_room(count: usize, order: usize, work: usize) -> bool
-    ensures { λ r. ⌜ r ≡ hasRoom count order work ⌝ }
-{
-    if MAX_BLOCKS < count {
-        return false;
-    }
-    if order < count {
-        return false;
-    }
-    count <= work
 }
 
 // The same for a call that goes on to look positions up: afterwards the front of `order` has the rows in use in the order of their positions, zeros

@@ -1,5 +1,5 @@
 -- Keys of block rows are references, so that two rows share a key exactly if their references are the same. Assumes nothing.
-use Prim.Native.Nat.{ℕ, _*_, _<_}
+use Prim.Native.Nat.{ℕ, _-_, _*_, _<_}
 use borrow.Author.Tests.{eq-eqb, eqb-true}
 use lib.Dec.{eqb}
 use mathlib.Core.Bool.{Bool}
@@ -11,13 +11,17 @@ use Rattle.types.proofs.Below.{all-intro, all-at}
 use Rattle.types.proofs.References.{same-self, same-true, order-equal, order-self, key-one}
 use Rattle.types.proofs.Tests.{same-test}
 use Rattle.types.specs.Below.{allBelow}
-use Rattle.types.specs.Limits.{blockWords}
+use Rattle.types.specs.Limits.{blockWords, referenceWords}
 use Rattle.types.specs.References.{same, orderOf, keyOf, refAt}
 use Rattle.types.specs.declared.reference.BlockReference.{BlockReference}
 
-pub key-is : (w : List ℕ) (row : ℕ) → referenceKey w row ≡ keyOf (refAt w (row * blockWords))
+-- the first words of a row, as many as a reference has, are one
+pub key-at : (w : List ℕ) (width row : ℕ) → keyAt width (referenceWords - 2) w row ≡ keyOf (refAt w (row * width))
 unfolding keyAt wordsFrom refAt
-key-is w row = rw (add-zero) refl
+key-at w width row = rw (add-zero) refl
+
+pub key-is : (w : List ℕ) (row : ℕ) → referenceKey w row ≡ keyOf (refAt w (row * blockWords))
+key-is w row = key-at w blockWords row
 
 -- one key, one reference
 pub same-keys : (a b : BlockReference) → eqb (orderOf (keyOf a) (keyOf b)) 1 ≡ same a b

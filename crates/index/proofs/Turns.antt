@@ -1,33 +1,32 @@
 -- Laws for the functions: one for each way round a loop and out of it. Assumes nothing.
-use Prim.Native.Nat.{ℕ, suc, _+_, _-_, _*_, _/_, _≤_, _<_}
+use Prim.Native.Nat.{ℕ, zero, suc, _+_, _-_, _*_, _/_, _≤_, _<_}
 use borrow.Author.Count.{below-more}
-use borrow.Author.Tests.{lt-ltb, le-ltb, eqb-true, le-leb, lt-leb, eq-eqb, ne-eqb}
-use lib.Dec.{ltb, eqb}
+use borrow.Author.Tests.{lt-ltb, le-ltb, eqb-true, eqb-false, le-leb, lt-leb, leb-true, eq-eqb, ne-eqb}
+use lib.Dec.{ltb, leb, eqb}
 use lib.ListN.{length, getD, set, replicate, drop, List·getD-eq-default}
 use lib.Seq.{getD-set-same, getD-set-other}
-use mathlib.Core.Bool.{Bool, true, false}
+use mathlib.Core.Bool.{Bool, true, false, _&&_}
 use mathlib.Core.List.{List, [], _∷_, _++_}
 use mathlib.Core.Logic.{⊎-elim}
 use mathlib.Core.Path.{_≡_, refl, sym, ap, _∙_}
 use native.Mathlib.Nat.{mul-le-mul, mul-le-mul-right, suc-mul, le-mul-of-pos-right}
 use native.Mathlib.Numerals.{add-one}
 use native.Mathlib.Omega.{arith}
-use Rattle.index.specs.Keys.{wordsFrom, keyAt, referenceKey, positionKey, comesBefore, distinctKeys}
+use Rattle.index.proofs.Same.{key-at, key-is, same-keys}
+use Rattle.index.specs.Keys.{wordsFrom, keyAt, statusWords, referenceKey, positionKey, comesBefore, distinctKeys}
 use Rattle.index.specs.Order.{RowsRise, Rising, Numbered}
 use Rattle.index.specs.Places.{beforeFlag, placeOf, putRows, inOrder, hasRoom, orderedRows, frontAfter}
-use Rattle.index.specs.Search.{middle, searchIn, rowAtEntry, foundRow, placeKey, soughtKey, keyFor}
-use Rattle.index.specs.declared.lookup.Sought.{Sought}
-use Rattle.index.specs.declared.lookup.Sought.the-variants.{Round, Position, Reference}
+use Rattle.index.specs.Search.{middle, searchIn, rowAtEntry, foundRow, placeKey}
 use Rattle.types.proofs.Below.{sum-more}
-use Rattle.types.proofs.References.{order-differs, order-same}
-use Rattle.types.proofs.Tests.{lt-or-le, by-test}
+use Rattle.types.proofs.References.{order-differs, order-same, order-equal}
+use Rattle.types.proofs.Tests.{both-right, both-left, lt-or-le, by-test}
 use Rattle.types.specs.Below.{sumBelow}
-use Rattle.types.specs.Limits.{maxBlocks, maxAuthorities, blockWords}
-use Rattle.types.specs.References.{orderOf, digestWords, keyOf}
-use Rattle.types.specs.declared.RoundNumber.{RoundNumber}
+use Rattle.types.specs.Limits.{maxBlocks, maxAuthorities, blockWords, referenceWords}
+use Rattle.types.specs.References.{reference, same, reportedOrder, orderOf, keyOf, cmpOf, refAt}
+use Rattle.types.specs.Reports.{Gives}
 use Rattle.types.specs.declared.reference.AuthorRound.{AuthorRound}
-use Rattle.types.specs.declared.reference.BlockDigest.{BlockDigest}
 use Rattle.types.specs.declared.reference.BlockReference.{BlockReference}
+use Rattle.types.specs.declared.reference.Order.{Order}
 
 -- ---- field
 
@@ -203,7 +202,7 @@ module _ (w : List ℕ) (width more a b x y : ℕ) (ex : x ≡ getD w (a * width
     unfolding keyAt
     by-more r e q p = e ∙ rw (← ex, ← ey, ← es, ← et) (sym (order-same x y _ _ q ∙ order-same s t _ _ p))
 
--- ---- index_references
+-- ---- has_room, index_references
 
 module _ (n rows work : ℕ) where
   pub room-none : maxBlocks < n → hasRoom n rows work ≡ false
@@ -214,13 +213,22 @@ module _ (n rows work : ℕ) where
   unfolding hasRoom
   room-short a h = rw (le-leb n maxBlocks a, lt-leb n rows h) refl
 
-  pub room-narrow : n ≤ maxBlocks → n ≤ rows → work < n → hasRoom n rows work ≡ false
+  pub room-left : n ≤ maxBlocks → n ≤ rows → leb n work ≡ hasRoom n rows work
   unfolding hasRoom
-  room-narrow a b h = rw (le-leb n maxBlocks a, le-leb n rows b, lt-leb n work h) refl
+  room-left a b = rw (le-leb n maxBlocks a, le-leb n rows b) refl
 
   pub room-enough : n ≤ maxBlocks → n ≤ rows → n ≤ work → hasRoom n rows work ≡ true
   unfolding hasRoom
   room-enough a b h = rw (le-leb n maxBlocks a, le-leb n rows b, le-leb n work h) refl
+
+  pub room-there : hasRoom n rows work ≡ true → (n ≤ maxBlocks) × (n ≤ rows) × (n ≤ work)
+  unfolding hasRoom
+  room-there e =
+      let f = both-right (leb n maxBlocks) (leb n rows && leb n work) e in (
+        leb-true n maxBlocks (both-left (leb n maxBlocks) (leb n rows && leb n work) e),
+        leb-true n rows (both-left (leb n rows) (leb n work) f),
+        leb-true n work (both-right (leb n rows) (leb n work) f),
+      )
 
 module _ (room : Bool) (n : ℕ) (xs area : List ℕ) where
   pub front-stays : room ≡ false → area ≡ frontAfter room n xs area
@@ -233,95 +241,153 @@ module _ (room : Bool) (n : ℕ) (xs area : List ℕ) where
       let q : n - 0 ≡ n = omega arith in
       rw (e, ep, q) refl
 
--- ---- entry_of
+-- ---- total_entry_of, entry_of
 
-module _ (key : ℕ → List ℕ) (order x : List ℕ) (steps low high : ℕ) where
-  pub search-end : steps ≤ 0 → low ≡ searchIn key order x steps low high
+module _ (key : ℕ → List ℕ) (order x : List ℕ) where
+  -- steps beyond the number of entries change nothing
+  search-enough : (s t low high : ℕ) → high ≤ low + s → high ≤ low + t → searchIn key order x s low high ≡ searchIn key order x t low high
   unfolding searchIn
-  search-end h = let q : steps ≡ 0 = omega arith in rw q refl
+  search-enough zero zero low high a b = refl
+  search-enough zero (suc t) low high a b = rw (le-ltb low high (omega arith)) refl
+  search-enough (suc s) zero low high a b = rw (le-ltb low high (omega arith)) refl
+  search-enough (suc s) (suc t) low high a b =
+      ⊎-elim
+      (λ l. rw (search-enough s t (middle low high + 1) high (omega arith) (omega arith), search-enough s t low (middle low high) (omega arith) (omega arith)) refl)
+      (λ l. rw (le-ltb low high l) refl)
+      (lt-or-le low high)
 
-  module _ (more : 0 < steps) where
-    search-step : searchIn key order x steps low high ≡ searchIn key order x (suc (steps - 1)) low high
-    search-step = let q : steps ≡ suc (steps - 1) = omega arith in ap (λ (s : ℕ). searchIn key order x s low high) q
+  pub search-all : (n : ℕ) → searchIn key order x (n - 0) 0 n ≡ searchIn key order x n 0 n
+  search-all n = search-enough (n - 0) n 0 n (omega arith) (omega arith)
 
-    pub search-stop : high ≤ low → low ≡ searchIn key order x steps low high
-    unfolding searchIn
-    search-stop h = sym (search-step ∙ rw (le-ltb low high h) refl)
+  pub search-none : (low high : ℕ) → high ≤ low → low ≡ searchIn key order x (high - low) low high
+  unfolding searchIn
+  search-none low high h = let q : high - low ≡ 0 = omega arith in rw q refl
 
-    module _ (row : ℕ) (t : Bool) (l : low < high) (er : row ≡ getD order (middle low high) 0) (et : t ≡ eqb (orderOf (key row) x) 0) where
-      told : eqb (orderOf (key (getD order (middle low high) 0)) x) 0 ≡ t
-      told = sym (et ∙ ap (λ (r : ℕ). eqb (orderOf (key r) x) 0) er)
+-- one step, by the reference y that a row begins with
+module _ (w : List ℕ) (width : ℕ) (order x : List ℕ) (low high row : ℕ) (y : BlockReference) (t : Bool) (l : low < high) (er : row ≡ getD order (middle low high) 0) (ey : y ≡ refAt w (row * width)) (et : t ≡ eqb (orderOf (keyOf y) x) 0) where
+  abbrev key : ℕ → List ℕ
+  key = keyAt width (referenceWords - 2) w
 
-      pub search-up : t ≡ true → searchIn key order x (steps - 1) (middle low high + 1) high ≡ searchIn key order x steps low high
-      unfolding searchIn
-      search-up e = sym (search-step ∙ rw (lt-ltb low high l, told ∙ e) refl)
+  told : eqb (orderOf (key (getD order (middle low high) 0)) x) 0 ≡ t
+  told = sym (et ∙ ap (λ (k : List ℕ). eqb (orderOf k x) 0) (ap keyOf ey ∙ sym (key-at w width row) ∙ ap key er))
 
-      pub search-down : t ≡ false → searchIn key order x (steps - 1) low (middle low high) ≡ searchIn key order x steps low high
-      unfolding searchIn
-      search-down e = sym (search-step ∙ rw (lt-ltb low high l, told ∙ e) refl)
+  search-step : searchIn key order x (high - low) low high ≡ searchIn key order x (suc (high - low - 1)) low high
+  search-step = let q : high - low ≡ suc (high - low - 1) = omega arith in ap (λ (s : ℕ). searchIn key order x s low high) q
 
--- ---- row_by
+  pub search-up : t ≡ true → searchIn key order x (high - (middle low high + 1)) (middle low high + 1) high ≡ searchIn key order x (high - low) low high
+  unfolding searchIn
+  search-up e = search-enough key order x (high - (middle low high + 1)) (high - low - 1) (middle low high + 1) high (omega arith) (omega arith) ∙ sym (search-step ∙ rw (lt-ltb low high l, told ∙ e) refl)
+
+  pub search-down : t ≡ false → searchIn key order x (middle low high - low) low (middle low high) ≡ searchIn key order x (high - low) low high
+  unfolding searchIn
+  search-down e = search-enough key order x (middle low high - low) (high - low - 1) low (middle low high) (omega arith) (omega arith) ∙ sym (search-step ∙ rw (lt-ltb low high l, told ∙ e) refl)
+
+-- ---- row_by, position_by
 
 module _ (key : ℕ → List ℕ) (order x : List ℕ) (n place : ℕ) (ep : place ≡ searchIn key order x n 0 n) where
   pub entry-none : n ≤ place → n ≡ foundRow key order n x
   unfolding foundRow rowAtEntry
   entry-none h = rw (← ep, le-ltb place n h) refl
 
-  module _ (row o : ℕ) (l : place < n) (er : row ≡ getD order place 0) (eo : o ≡ orderOf (key row) x) where
-    compared : orderOf (key (getD order place 0)) x ≡ o
-    compared = sym (eo ∙ ap (λ (r : ℕ). orderOf (key r) x) er)
+  module _ (row : ℕ) (t : Bool) (l : place < n) (er : row ≡ getD order place 0) (et : t ≡ eqb (orderOf (key row) x) 1) where
+    compared : eqb (orderOf (key (getD order place 0)) x) 1 ≡ t
+    compared = sym (et ∙ ap (λ (r : ℕ). eqb (orderOf (key r) x) 1) er)
 
-    pub entry-other : (o ≡ 1 → ⊥) → n ≡ foundRow key order n x
+    pub entry-other : t ≡ false → n ≡ foundRow key order n x
     unfolding foundRow rowAtEntry
-    entry-other e = rw (← ep, lt-ltb place n l, compared, ne-eqb o 1 e) refl
+    entry-other e = rw (← ep, lt-ltb place n l, compared, e) refl
 
-    pub entry-found : o ≡ 1 → row ≡ foundRow key order n x
+    pub entry-found : t ≡ true → row ≡ foundRow key order n x
     unfolding foundRow rowAtEntry
-    entry-found e = rw (← ep, lt-ltb place n l, compared, eq-eqb o 1 e) er
+    entry-found e = rw (← ep, lt-ltb place n l, compared, e) er
 
--- ---- precedes
+-- a row has the reference that it begins with
+pub row-same : (w : List ℕ) (row : ℕ) (x y : BlockReference) (t : Bool) → y ≡ refAt w (row * blockWords) → t ≡ same y x → t ≡ eqb (orderOf (referenceKey w row) (keyOf x)) 1
+row-same w row x y t ey et = et ∙ sym (same-keys y x) ∙ ap (λ (k : List ℕ). eqb (orderOf k (keyOf x)) 1) (ap keyOf ey ∙ sym (key-is w row))
+
+-- ---- first_reference
+
+-- nothing comes before the empty list
+none-before : (xs : List ℕ) → eqb (orderOf xs []) 0 ≡ false
+unfolding orderOf
+none-before [] = refl
+none-before (x ∷ xs) = refl
 
 -- what has that round or a higher one does not come before the round alone
 pub first-before : (x r : ℕ) (xs : List ℕ) → ltb x r ≡ eqb (orderOf (x ∷ xs) (r ∷ [])) 0
 unfolding orderOf
-first-before x r xs = by-test (ltb x r) (λ e. rw e refl) (λ e. rw e (by-test (ltb r x) (λ f. rw f refl) (λ f. rw f (rest xs))))
-  where
-    rest : (ys : List ℕ) → false ≡ eqb (orderOf ys []) 0
-    rest [] = refl
-    rest (y ∷ ys) = refl
+first-before x r xs = by-test (ltb x r) (λ e. rw e refl) (λ e. rw e (by-test (ltb r x) (λ f. rw f refl) (λ f. rw f (sym (none-before xs)))))
 
-module _ (sought : Sought) (rows : List ℕ) (row : ℕ) where
-  abbrev Told : Bool → Type 0
-  Told t = t ≡ eqb (orderOf (keyFor sought rows row) (soughtKey sought)) 0
+-- nor before zeros that are no more than its words
+zeros-first : (xs : List ℕ) (m : ℕ) → m ≤ length xs → eqb (orderOf xs (replicate m 0)) 0 ≡ false
+unfolding orderOf
+zeros-first xs zero h = none-before xs
+zeros-first [] (suc m) h = absurd (omega arith)
+zeros-first (x ∷ xs) (suc m) h = rw (le-ltb x 0 (omega arith)) (by-test (ltb 0 x) (λ e. rw e refl) (λ e. rw e (zeros-first xs m (omega arith))))
 
-  pub before-round : (x : ℕ) (r : RoundNumber) → sought ≡ Round r → x ≡ getD rows (row * blockWords + 1) 0 → Told (ltb x (r .0))
-  unfolding keyAt
-  before-round x r e ex = rw e (ap (λ (y : ℕ). ltb y (r .0)) ex ∙ first-before _ (r .0) _)
+-- what follows decides where the first words agree
+tails : (x y : ℕ) (xs ys us vs : List ℕ) → eqb (orderOf xs ys) 0 ≡ eqb (orderOf us vs) 0 → eqb (orderOf (x ∷ xs) (y ∷ ys)) 0 ≡ eqb (orderOf (x ∷ us) (y ∷ vs)) 0
+unfolding orderOf
+tails x y xs ys us vs e = by-test (ltb x y) (λ l. rw l refl) (λ l. rw l (by-test (ltb y x) (λ g. rw g refl) (λ g. rw g e)))
 
-  pub before-position : (o : ℕ) (p : AuthorRound) → sought ≡ Position p → o ≡ orderOf (positionKey rows row) (placeKey p) → Told (eqb o 0)
-  before-position o p e eo = rw e (ap (λ (y : ℕ). eqb y 0) eo)
+-- two searches that tell each row alike
+search-alike : (key other : ℕ → List ℕ) (order x y : List ℕ) → ((row : ℕ) → eqb (orderOf (key row) x) 0 ≡ eqb (orderOf (other row) y) 0) → (s low high : ℕ) → searchIn key order x s low high ≡ searchIn other order y s low high
+unfolding searchIn
+search-alike key other order x y h zero low high = refl
+search-alike key other order x y h (suc s) low high =
+    rw (h (getD order (middle low high) 0), search-alike key other order x y h s (middle low high + 1) high, search-alike key other order x y h s low (middle low high)) refl
 
-  pub before-reference : (t : Bool) (x : BlockReference) → sought ≡ Reference x → t ≡ eqb (orderOf (referenceKey rows row) (keyOf x)) 0 → Told t
-  before-reference t x e et = rw e et
+module _ (w : List ℕ) (width : ℕ) (order : List ℕ) (n : ℕ) (x : BlockReference) where
+  abbrev keys : ℕ → List ℕ
+  keys = keyAt width (referenceWords - 2) w
 
--- ---- compare_position, compare_digest, compare_reference
+  -- the rows before a round are those before the first reference that it can have
+  round-first : (round row : ℕ) → eqb (orderOf (keys row) (keyOf (reference 0 round 0 0 0 0))) 0 ≡ eqb (orderOf (keys row) (round ∷ [])) 0
+  unfolding keyAt wordsFrom
+  round-first round row = tails _ round _ (replicate 5 0) _ [] (zeros-first _ 5 (omega arith) ∙ sym (none-before _))
 
-pub ends : (x y v : ℕ) → x ≡ v → orderOf (x ∷ []) (y ∷ []) ≡ orderOf (v ∷ []) (y ∷ [])
-ends x y v e = ap (λ (z : ℕ). orderOf (z ∷ []) (y ∷ [])) e
+  pub round-searched : (round : ℕ) → x ≡ reference 0 round 0 0 0 0 → searchIn keys order (keyOf x) n 0 n ≡ searchIn keys order (round ∷ []) n 0 n
+  round-searched round e = ap (λ (y : BlockReference). searchIn keys order (keyOf y) n 0 n) e ∙ search-alike keys keys order (keyOf (reference 0 round 0 0 0 0)) (round ∷ []) (round-first round) n 0 n
 
-module _ (w : List ℕ) (at : ℕ) (d : BlockDigest) where
-  abbrev four : List ℕ
-  four = getD w (at + 2) 0 ∷ getD w (at + 3) 0 ∷ getD w (at + 4) 0 ∷ getD w (at + 5) 0 ∷ []
+  -- and those before a round and an authority, whatever words of a row are compared behind them
+  place-first : (more : ℕ) (p : AuthorRound) (row : ℕ) → eqb (orderOf (keys row) (keyOf (reference (p .authority .0) (p .round .0) 0 0 0 0))) 0 ≡ eqb (orderOf (keyAt width more w row) (placeKey p)) 0
+  unfolding keyAt wordsFrom
+  place-first more p row =
+      tails _ (p .round .0) _ (p .authority .0 ∷ replicate 4 0) _ (p .authority .0 ∷ [])
+      (tails _ (p .authority .0) _ (replicate 4 0) _ [] (zeros-first _ 4 (omega arith) ∙ sym (none-before _)))
 
-  words-four : wordsFrom w at 2 4 ≡ four
-  unfolding wordsFrom
-  words-four = refl
+  pub place-searched : (more : ℕ) (p : AuthorRound) → x ≡ reference (p .authority .0) (p .round .0) 0 0 0 0 → searchIn keys order (keyOf x) n 0 n ≡ searchIn (keyAt width more w) order (placeKey p) n 0 n
+  place-searched more p e = ap (λ (y : BlockReference). searchIn keys order (keyOf y) n 0 n) e ∙ search-alike keys (keyAt width more w) order (keyOf (reference (p .authority .0) (p .round .0) 0 0 0 0)) (placeKey p) (place-first more p) n 0 n
 
-  pub by-digest : (r : ℕ) → r ≡ orderOf four (digestWords d) → r ≡ orderOf (wordsFrom w at 2 4) (digestWords d)
-  by-digest r e = e ∙ ap (λ (l : List ℕ). orderOf l (digestWords d)) (sym words-four)
+-- ---- precedes, is_less
 
-pub differs : (x y v : ℕ) (xs ys : List ℕ) → x ≡ v → (x ≡ y → ⊥) → orderOf (x ∷ []) (y ∷ []) ≡ orderOf (v ∷ xs) (y ∷ ys)
-differs x y v xs ys e n = sym (order-differs x y xs ys n) ∙ ap (λ (z : ℕ). orderOf (z ∷ xs) (y ∷ ys)) e
+pub less-differs : (x y : ℕ) (xs ys : List ℕ) → (x ≡ y → ⊥) → ltb x y ≡ eqb (orderOf (x ∷ xs) (y ∷ ys)) 0
+less-differs x y xs ys n = first-before x y [] ∙ ap (λ (o : ℕ). eqb o 0) (sym (order-differs x y xs ys n))
 
-pub agrees : (x y v : ℕ) (xs ys : List ℕ) → x ≡ v → x ≡ y → orderOf xs ys ≡ orderOf (v ∷ xs) (y ∷ ys)
-agrees x y v xs ys e q = sym (order-same v y xs ys (sym e ∙ q))
+pub less-same : (x y : ℕ) (xs ys : List ℕ) → x ≡ y → eqb (orderOf xs ys) 0 ≡ eqb (orderOf (x ∷ xs) (y ∷ ys)) 0
+less-same x y xs ys e = ap (λ (o : ℕ). eqb o 0) (sym (order-same x y xs ys e))
+
+pub order-told : (a b : BlockReference) (o : Order) (n : ℕ) → reportedOrder o ≡ Gives (n ∷ []) → reportedOrder o ≡ cmpOf a b → eqb n 0 ≡ eqb (orderOf (keyOf a) (keyOf b)) 0
+unfolding cmpOf
+order-told a b o n p e = let z : n ≡ orderOf (keyOf a) (keyOf b) = cc in ap (λ (m : ℕ). eqb m 0) z
+
+-- ---- has_position
+
+other-first : (x y : ℕ) (xs ys : List ℕ) → (x ≡ y → ⊥) → false ≡ eqb (orderOf (x ∷ xs) (y ∷ ys)) 1
+other-first x y xs ys n = sym (ne-eqb (orderOf (x ∷ xs) (y ∷ ys)) 1 (λ e. let q = order-equal (x ∷ xs) (y ∷ ys) e in let z : x ≡ y = cc in n z))
+
+only-word : (x y : ℕ) → eqb x y ≡ eqb (orderOf (x ∷ []) (y ∷ [])) 1
+unfolding orderOf
+only-word x y =
+    by-test (eqb x y)
+    (λ e. e ∙ sym (eq-eqb (orderOf (x ∷ []) (y ∷ [])) 1 (order-same x y [] [] (eqb-true x y e))))
+    (λ e. e ∙ other-first x y [] [] (eqb-false x y e))
+
+module _ (w : List ℕ) (row : ℕ) (p : AuthorRound) (x : ℕ) (ex : x ≡ getD w (row * statusWords + 1) 0) where
+  pub other-round : (x ≡ p .round .0 → ⊥) → false ≡ eqb (orderOf (positionKey w row) (placeKey p)) 1
+  unfolding keyAt wordsFrom
+  other-round n = rw (← ex) (other-first x (p .round .0) _ _ n)
+
+  pub same-round : x ≡ p .round .0 → (y : ℕ) → y ≡ getD w (row * statusWords + 0) 0 → eqb y (p .authority .0) ≡ eqb (orderOf (positionKey w row) (placeKey p)) 1
+  unfolding keyAt wordsFrom
+  same-round e y ey = rw (← ex, ← ey) (only-word y (p .authority .0) ∙ ap (λ (o : ℕ). eqb o 1) (sym (order-same x (p .round .0) _ _ e)))

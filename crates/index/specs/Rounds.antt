@@ -17,6 +17,10 @@ roundIs blocks round row = eqb (getD blocks (row * blockWords + 1) 0) round
 unfoldable pub roundEntry : List ℕ → List ℕ → ℕ → ℕ → ℕ
 roundEntry blocks order n round = searchIn (referenceKey blocks) order (round ∷ []) n 0 n
 
+-- the first entry whose row is by that authority in that round, or comes later
+unfoldable pub placeEntry : List ℕ → List ℕ → ℕ → ℕ → ℕ → ℕ
+placeEntry blocks order n authority round = searchIn (referenceKey blocks) order (round ∷ authority ∷ []) n 0 n
+
 -- the rows at m entries from entry k on, up to the first that is not of that round
 abbrev pub roundFrom : List ℕ → List ℕ → ℕ → ℕ → ℕ → List ℕ
 roundFrom blocks order round k zero = []

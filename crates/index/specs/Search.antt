@@ -5,12 +5,10 @@ use mathlib.Core.Bool.{true, cond, _&&_}
 use mathlib.Core.List.{List, [], _∷_}
 use lib.Dec.{ltb, eqb}
 use lib.ListN.{getD}
-use Rattle.types.specs.References.{orderOf, keyOf}
+use Rattle.types.specs.References.{orderOf}
 use Rattle.types.specs.declared.reference.AuthorRound.{AuthorRound}
-use Rattle.index.specs.Keys.{referenceKey, positionKey, distinctKeys}
+use Rattle.index.specs.Keys.{distinctKeys}
 use Rattle.index.specs.Places.{inOrder}
-use Rattle.index.specs.declared.lookup.Sought.{Sought}
-use Rattle.index.specs.declared.lookup.Sought.the-variants.{Round, Position, Reference}
 
 -- the entries of an area begin with the n rows in order, no two of which share a key
 pub record Indexed (key : ℕ → List ℕ) (n : ℕ) (order : List ℕ) : Type 0 where
@@ -35,20 +33,6 @@ rowAtEntry key order n k place = cond (ltb place n && eqb (orderOf (key (getD or
 unfoldable pub foundRow : (ℕ → List ℕ) → List ℕ → ℕ → List ℕ → ℕ
 foundRow key order n k = rowAtEntry key order n k (searchIn key order k n 0 n)
 
--- ---- what is looked for
-
 -- a position as it is compared
 abbrev pub placeKey : AuthorRound → List ℕ
 placeKey p = p .round .0 ∷ p .authority .0 ∷ []
-
--- the key looked for; a round alone comes before each row of it
-abbrev pub soughtKey : Sought → List ℕ
-soughtKey (Round r) = r .0 ∷ []
-soughtKey (Position p) = placeKey p
-soughtKey (Reference x) = keyOf x
-
--- the keys of the rows among which it is looked for
-abbrev pub keyFor : Sought → List ℕ → ℕ → List ℕ
-keyFor (Round r) rows = referenceKey rows
-keyFor (Position p) rows = positionKey rows
-keyFor (Reference x) rows = referenceKey rows

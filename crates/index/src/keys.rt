@@ -1,7 +1,7 @@
 // Two rows compared by their keys: by round, then authority, then the words behind them.
 use types::AuthorRound;
-use types::BlockDigest;
 use types::BlockReference;
+use types::reference::reference_at;
 use types::words::word;
 ghost use mathlib.Core.Path.{_≡_};
 ghost use mathlib.Core.Bool.{true};
@@ -9,9 +9,9 @@ ghost use mathlib.Core.List.{[], _∷_};
 ghost use Prim.Native.Nat.{_+_, _-_, _*_, _≤_, _<_};
 ghost use lib.Dec.{eqb};
 ghost use lib.ListN.{length, getD};
-ghost use Rattle.types.specs.Limits.{blockWords, referenceWords};
-ghost use Rattle.types.specs.References.{orderOf, digestWords, keyOf};
-ghost use Rattle.index.specs.Keys.{wordsFrom, keyAt, referenceKey, positionKey, comesBefore, sharesKey};
+ghost use Rattle.types.specs.Limits.{referenceWords};
+ghost use Rattle.types.specs.References.{orderOf, keyOf, refAt};
+ghost use Rattle.index.specs.Keys.{wordsFrom, keyAt, positionKey, comesBefore, sharesKey};
 ghost use Rattle.index.specs.Search.{placeKey};
 
 // The words of a block's row: authority, round, digest, first include, include count.
@@ -21,9 +21,9 @@ pub const BLOCK_WORDS: usize = 8;
 pub const STATUS_WORDS: usize = 4;
 
 // How two keys stand to each other.
-pub(crate) const LESS: u64 = 0;
+const LESS: u64 = 0;
 
-pub(crate) const EQUAL: u64 = 1;
+const EQUAL: u64 = 1;
 
 const GREATER: u64 = 2;
 
@@ -105,73 +105,57 @@ fn compare(rows: &[u64], width: usize, more: usize, a: usize, b: usize) -> u64
     compare_more(rows, width, more, a, b)
 }
 
-// The digest of a block's row and another compared.
-fn compare_digest(blocks: &[u64], row: usize, digest: BlockDigest) -> u64
-    ensures { λ r. ⌜ r ≡ orderOf (wordsFrom (now (blocks .entry)) (row * blockWords) 2 (referenceWords - 2)) (digestWords digest) ⌝ }
+// The first words of a row as a reference.
+pub(crate) fn reference_of(rows: &[u64], width: usize, row: usize) -> BlockReference
+    requires { ⌜ (0 < width) × (width ≤ 8) ⌝ }
+    ensures { λ r. ⌜ r ≡ refAt (now (rows .entry)) (row * width) ⌝ }
 {
-    let word0 = field(blocks, BLOCK_WORDS, row, 2);
-    if word0 != digest.word0 {
-        return compare_words(word0, digest.word0);
+    let n = rows.len();
+    if row < n {
+        return reference_at(rows, row * width);
     }
-    let word1 = field(blocks, BLOCK_WORDS, row, 3);
-    if word1 != digest.word1 {
-        return compare_words(word1, digest.word1);
-    }
-    let word2 = field(blocks, BLOCK_WORDS, row, 4);
-    if word2 != digest.word2 {
-        return compare_words(word2, digest.word2);
-    }
-    let word3 = field(blocks, BLOCK_WORDS, row, 5);
-    compare_words(word3, digest.word3)
+    reference_at(rows, n)
 }
 
-// The reference of a block's row and another compared.
-pub(crate) fn compare_reference(blocks: &[u64], row: usize, x: BlockReference) -> u64
-    ensures { λ r. ⌜ r ≡ orderOf (referenceKey (now (blocks .entry)) row) (keyOf x) ⌝ }
-{
-    let round = field(blocks, BLOCK_WORDS, row, 1);
-    if round != x.round.0 {
-        return compare_words(round, x.round.0);
-    }
-    let authority = field(blocks, BLOCK_WORDS, row, 0);
-    if authority != x.authority.0 {
-        return compare_words(authority, x.authority.0);
-    }
-    compare_digest(blocks, row, x.digest)
-}
-
-// Whether a block's row comes before a reference. Most rows differ from it in round or authority.
-pub(crate) fn precedes_reference(blocks: &[u64], row: usize, x: BlockReference) -> bool
-    ensures { λ r. ⌜ r ≡ eqb (orderOf (referenceKey (now (blocks .entry)) row) (keyOf x)) 0 ⌝ }
-{
-    let round = field(blocks, BLOCK_WORDS, row, 1);
-    if round != x.round.0 {
-        return compare_words(round, x.round.0) == LESS;
-    }
-    let authority = field(blocks, BLOCK_WORDS, row, 0);
-    if authority != x.authority.0 {
-        return compare_words(authority, x.authority.0) == LESS;
-    }
-    compare_digest(blocks, row, x.digest) == LESS
-}
-
-// The round of a block's row.
-pub(crate) fn round_at(blocks: &[u64], row: usize) -> u64
-    ensures { λ r. ⌜ r ≡ getD (now (blocks .entry)) (row * blockWords + 1) 0 ⌝ }
-{
-    field(blocks, BLOCK_WORDS, row, 1)
-}
-
-// The position of a status row and another compared.
-pub(crate) fn compare_position(rows: &[u64], row: usize, place: AuthorRound) -> u64
-    ensures { λ r. ⌜ r ≡ orderOf (positionKey (now (rows .entry)) row) (placeKey place) ⌝ }
+// Whether a status row has a position.
+pub(crate) fn has_position(rows: &[u64], row: usize, place: AuthorRound) -> bool
+    ensures { λ r. ⌜ r ≡ eqb (orderOf (positionKey (now (rows .entry)) row) (placeKey place)) 1 ⌝ }
 {
     let round = field(rows, STATUS_WORDS, row, 1);
     if round != place.round.0 {
-        return compare_words(round, place.round.0);
+        return false;
     }
     let authority = field(rows, STATUS_WORDS, row, 0);
-    compare_words(authority, place.authority.0)
+    authority == place.authority.0
+}
+
+// Whether the reference in the words from `at` on comes before another, where the table has six there. Most differ in round or authority.
+pub(crate) fn precedes(words: &[u64], at: usize, x: BlockReference) -> bool
+    requires { ⌜ at + referenceWords ≤ length (now words) ⌝ }
+    ensures { λ r. ⌜ r ≡ eqb (orderOf (keyOf (refAt (now (words .entry)) at)) (keyOf x)) 0 ⌝ }
+{
+    let round = words[at + 1];
+    if round != x.round.0 {
+        return round < x.round.0;
+    }
+    let authority = words[at];
+    if authority != x.authority.0 {
+        return authority < x.authority.0;
+    }
+    let digest = x.digest;
+    let word0 = words[at + 2];
+    if word0 != digest.word0 {
+        return word0 < digest.word0;
+    }
+    let word1 = words[at + 3];
+    if word1 != digest.word1 {
+        return word1 < digest.word1;
+    }
+    let word2 = words[at + 4];
+    if word2 != digest.word2 {
+        return word2 < digest.word2;
+    }
+    words[at + 5] < digest.word3
 }
 
 // Whether row a comes before row b, both of which the table has whole.

@@ -5,11 +5,14 @@ use lib.Dec.{ltb}
 use lib.ListN.{replicate}
 use mathlib.Core.Bool.{Bool, true, false, _&&_}
 use mathlib.Core.List.{List}
-use mathlib.Core.Path.{_≡_, refl}
+use mathlib.Core.Path.{_≡_, refl, sym, _∙_}
 use Rattle.block_store.specs.Sound.{soundStore}
 use Rattle.block_store.specs.Store.{Store}
+use Rattle.store_queries.proofs.Windows.{window-any}
 use Rattle.store_queries.specs.Queries.{knownAuthority, knownRound, inRange, asked, areaOf}
 use Rattle.store_queries.specs.Rows.{inRound, existsAt, allIn, filled}
+use Rattle.store_queries.specs.Windows.{Covers}
+use Rattle.store_queries.specs.declared.window.Window.{Window}
 use Rattle.types.proofs.Tests.{and-false}
 use Rattle.types.specs.Below.{anyBelow}
 use Rattle.types.specs.Limits.{maxAuthorities, roundLimit}
@@ -58,8 +61,9 @@ pub bad-list : (l : List ℕ) (r : ℕ) → r < roundLimit → allIn knownAuthor
 bad-list l r h e = rw (lt-ltb r roundLimit h, e) refl
 
 -- a round that holds no block, or one that holds some
-pub no-block : (blocks : List ℕ) (n : ℕ) (l : List ℕ) (r : ℕ) → anyBelow (inRound blocks r) n ≡ false → says false ≡ says (anyBelow (inRound blocks r) n && allIn (existsAt blocks n r) l)
-no-block blocks n l r e = rw e refl
+module _ (blocks : List ℕ) (n : ℕ) (l : List ℕ) (r : ℕ) (w : Window) (cov : Covers (inRound blocks r) n w) where
+  pub no-block : w .end ≤ w .first → says false ≡ says (anyBelow (inRound blocks r) n && allIn (existsAt blocks n r) l)
+  no-block h = rw (sym (window-any (inRound blocks r) n w cov) ∙ le-ltb (w .first) (w .end) h) refl
 
-pub all-blocks : (blocks : List ℕ) (n : ℕ) (l : List ℕ) (r : ℕ) → anyBelow (inRound blocks r) n ≡ true → says (allIn (existsAt blocks n r) l) ≡ says (anyBelow (inRound blocks r) n && allIn (existsAt blocks n r) l)
-all-blocks blocks n l r e = rw e refl
+  pub some-block : w .first < w .end → says (allIn (existsAt blocks n r) l) ≡ says (anyBelow (inRound blocks r) n && allIn (existsAt blocks n r) l)
+  some-block h = rw (sym (window-any (inRound blocks r) n w cov) ∙ lt-ltb (w .first) (w .end) h) refl

@@ -8,8 +8,10 @@ use mathlib.Core.List.{List, [], _∷_, _++_, append-assoc}
 use mathlib.Core.Path.{_≡_, refl, sym, ap, _∙_}
 use native.Mathlib.Omega.{arith}
 use Rattle.store_queries.proofs.Rows.{rows-longer}
-use Rattle.types.proofs.Below.{rows-zero, rows-pass, rows-put}
 use Rattle.store_queries.specs.Rows.{listed, filled}
+use Rattle.store_queries.specs.Windows.{Opens}
+use Rattle.store_queries.specs.declared.window.Window.{Window}
+use Rattle.types.proofs.Below.{rows-none-have, rows-pass, rows-put}
 use Rattle.types.specs.Below.{rowsBelow}
 use Rattle.types.specs.Reports.{Gives, Refuses}
 
@@ -18,12 +20,12 @@ abbrev pub FillFrom : (ℕ → Bool) → ℕ → ℕ → List ℕ → ℕ → �
 FillFrom p stored room rows n i =
     (i ≤ stored) × (n ≡ length (rowsBelow p i)) × (n ≤ room) × (length rows ≡ room) × (rows ≡ rowsBelow p i ++ replicate (room - n) 0)
 
-pub fill-start : (p : ℕ → Bool) (stored room : ℕ) (rows : List ℕ) → rows ≡ replicate room 0 → FillFrom p stored (length rows) rows 0 0
-fill-start p stored room rows e =
+pub fill-start : (p : ℕ → Bool) (w : Window) (room : ℕ) (rows : List ℕ) → Opens p w → rows ≡ replicate room 0 → FillFrom p (w .end) (length rows) rows 0 (w .first)
+fill-start p w room rows o e =
     let l : length rows ≡ room = ap length e ∙ length-replicate {A = ℕ} room 0 in
     let q : room ≡ length rows - 0 = omega arith in
-    let z : rowsBelow p 0 ≡ [] = rows-zero p in
-    (omega arith, sym (ap length z), omega arith, refl, e ∙ ap (λ (m : ℕ). replicate m 0) q ∙ ap (λ (l : List ℕ). l ++ replicate (length rows - 0) 0) (sym z))
+    let z : rowsBelow p (w .first) ≡ [] = rows-none-have p (w .first) (o .1) in
+    (o .0, sym (ap length z), omega arith, refl, e ∙ ap (λ (m : ℕ). replicate m 0) q ∙ ap (λ (l : List ℕ). l ++ replicate (length rows - 0) 0) (sym z))
 
 module _ (p : ℕ → Bool) (stored room : ℕ) (rows : List ℕ) (n i : ℕ) (inv : FillFrom p stored room rows n i) where
   pub fill-pass : i < stored → p i ≡ false → FillFrom p stored room rows n (i + 1)

@@ -1,7 +1,7 @@
 -- Rounds as keys: the highest, the next above a round, and the first ones above it. The rows of an authority in the first `limit` rounds are
 -- those above the round up to the last of them, where each of its rows is among those that make a key. Assumes nothing.
 use Prim.Native.Nat.{ℕ, zero, suc, _+_, _-_, _≤_, _<_}
-use borrow.Author.Tests.{eq-eqb, ne-eqb, eqb-true, eqb-false, lt-ltb, le-ltb, ltb-true, le-leb, leb-true}
+use borrow.Author.Tests.{eq-eqb, ne-eqb, eqb-true, eqb-false, lt-ltb, ltb-true, le-leb, leb-true}
 use lib.Dec.{eqb, ltb, leb}
 use mathlib.Core.Bool.{Bool, true, false, _&&_, _||_}
 use mathlib.Core.List.{List}
@@ -11,8 +11,8 @@ use native.Mathlib.Nat.{eq-or-lt-of-le, le-of-suc-le-suc, max-eq-left, max-eq-ri
 use native.Mathlib.Numerals.{add-one}
 use native.Mathlib.Omega.{arith}
 use Rattle.block_store.specs.Store.{fieldOf}
-use Rattle.types.proofs.Below.{rows-ext}
 use Rattle.store_queries.specs.Rows.{byAuthority, isWithin, isIn, highestOf, lower, nextRound, firstRounds, lastRound, isChosen, rowsUpTo}
+use Rattle.types.proofs.Below.{rows-ext}
 use Rattle.types.proofs.Tests.{both, both-left, both-right, either, either-left, either-right, by-test, same-test, fails, clash, lt-or-le}
 use Rattle.types.specs.Below.{rowsBelow}
 
@@ -45,43 +45,6 @@ highest-all blocks p n i high a b e =
     e ∙ ap (highestOf blocks p) q
 
 -- ---- the next round
-
-pub next-none : (blocks : List ℕ) (p : ℕ → Bool) (above : ℕ) → 0 ≡ nextRound blocks p 0 above
-unfolding nextRound
-next-none blocks p above = refl
-
-module _ (blocks : List ℕ) (p : ℕ → Bool) (i above next : ℕ) (e : next ≡ nextRound blocks p i above) where
-  one-more : (w : Bool) (r : ℕ) → p i ≡ w → r ≡ fieldOf blocks i 1 → lower w above r next ≡ nextRound blocks p (i + 1) above
-  unfolding nextRound
-  one-more w r h q =
-      let q′ = sym q in
-      let e′ = sym e in
-      sym (ap (λ (m : ℕ). nextRound blocks p m above) (add-one i) ∙ (λ j. lower (h j) above (q′ j) (e′ j)))
-
-  pub next-first : (r : ℕ) → p i ≡ true → r ≡ fieldOf blocks i 1 → above < r → next ≡ 0 → r ≡ nextRound blocks p (i + 1) above
-  unfolding lower
-  next-first r h q l z = sym (rw (lt-ltb above r l, eq-eqb next 0 z) refl) ∙ one-more true r h q
-
-  pub next-lower : (r : ℕ) → p i ≡ true → r ≡ fieldOf blocks i 1 → above < r → r < next → r ≡ nextRound blocks p (i + 1) above
-  unfolding lower
-  next-lower r h q l m = sym (rw (lt-ltb above r l, either-right (eqb next 0) (ltb r next) (lt-ltb r next m)) refl) ∙ one-more true r h q
-
-  pub next-kept : (r : ℕ) → p i ≡ true → r ≡ fieldOf blocks i 1 → above < r → (next ≡ 0 → ⊥) → next ≤ r → next ≡ nextRound blocks p (i + 1) above
-  unfolding lower
-  next-kept r h q l z m = sym (rw (lt-ltb above r l, ne-eqb next 0 z, le-ltb r next m) refl) ∙ one-more true r h q
-
-  pub next-below : (r : ℕ) → p i ≡ true → r ≡ fieldOf blocks i 1 → r ≤ above → next ≡ nextRound blocks p (i + 1) above
-  unfolding lower
-  next-below r h q l = sym (rw (le-ltb above r l) refl) ∙ one-more true r h q
-
-  pub next-pass : p i ≡ false → next ≡ nextRound blocks p (i + 1) above
-  unfolding lower
-  next-pass h = one-more false (fieldOf blocks i 1) h refl
-
-pub next-all : (blocks : List ℕ) (p : ℕ → Bool) (n i above next : ℕ) → i ≤ n → n ≤ i → next ≡ nextRound blocks p i above → next ≡ nextRound blocks p n above
-next-all blocks p n i above next a b e =
-    let q : i ≡ n = omega arith in
-    e ∙ ap (λ (m : ℕ). nextRound blocks p m above) q
 
 -- taken, or kept
 Taken : Bool → ℕ → ℕ → ℕ → Type 0
@@ -176,9 +139,6 @@ next-not blocks p n above none =
     ⊎-elim (λ h. let r = next-there blocks p n above h in absurd (omega (arith, r .3, none (r .0) (r .1) (r .2)))) (λ h. omega arith) (lt-or-le 0 (nextRound blocks p n above))
 
 -- ---- the last of the first rounds
-
-pub last-start : (f : ℕ → ℕ) (limit above left last : ℕ) → left ≡ limit → last ≡ above → lastRound f left last ≡ lastRound f limit above
-last-start f limit above left last p q = λ i. lastRound f (p i) (q i)
 
 pub last-stop : (f : ℕ → ℕ) (left last : ℕ) → 0 < left → f last ≡ 0 → lastRound f left last ≡ last
 unfolding lastRound

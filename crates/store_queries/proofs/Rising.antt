@@ -1,36 +1,21 @@
--- Laws of the rows in order: rounds never fall, so the first wanted row above a round has the next one.
+-- Rounds counted by the rows in order: rounds never fall, so the first wanted row above a round has the next one. Assumes nothing.
 use Prim.Native.Nat.{ℕ, _+_, _-_, _<_, _≤_}
-use borrow.Author.Tests.{le-ltb, lt-ltb}
 use lib.ListN.{getD}
 use mathlib.Core.Bool.{Bool, true, false}
-use mathlib.Core.List.{List, _∷_}
+use mathlib.Core.List.{List, [], _∷_}
 use mathlib.Core.Logic.{_⊎_, inl, inr, ⊎-elim}
 use mathlib.Core.Path.{_≡_, refl, sym, ap, _∙_}
-use native.Mathlib.Nat.{eq-or-lt-of-le}
 use native.Mathlib.Omega.{arith}
 use Rattle.block_store.specs.Store.{fieldOf}
-use Rattle.index.proofs.Certificate.{place-up, place-below}
-use Rattle.index.proofs.Searching.{key-row, entry-row, entries-rise}
-use Rattle.index.specs.Keys.{keyAt, referenceKey}
-use Rattle.index.specs.Places.{placeOf}
+use Rattle.index.proofs.Rounds.{lower, rounds-rise}
+use Rattle.index.proofs.Searching.{searched}
+use Rattle.index.specs.Keys.{referenceKey}
+use Rattle.index.specs.Rounds.{roundEntry}
 use Rattle.index.specs.Search.{Indexed}
 use Rattle.store_queries.proofs.Keys.{next-is, next-not, last-stop, last-step, last-done}
+use Rattle.store_queries.proofs.Standing.{entry-of, entry-there}
 use Rattle.store_queries.specs.Rows.{nextRound, lastRound}
-use Rattle.types.proofs.References.{order-turned}
 use Rattle.types.proofs.Tests.{clash, lt-or-le}
-use Rattle.types.specs.References.{orderOf}
-
--- a list that comes before another begins with no more
-first-le : (x y : ℕ) (xs ys : List ℕ) → orderOf (x ∷ xs) (y ∷ ys) ≡ 0 → x ≤ y
-unfolding orderOf
-first-le x y xs ys e =
-    ⊎-elim
-    (λ l. absurd (two-not (rw (le-ltb x y (omega arith), lt-ltb y x l) at e)))
-    (λ l. l)
-    (lt-or-le y x)
-  where
-    two-not : _≡_ {A = ℕ} 2 0 → ⊥
-    two-not q = omega arith
 
 up-to : (j k : ℕ) → j < k + 1 → (j ≡ k) ⊎ (j < k)
 up-to j k h = ⊎-elim (λ l. inr l) (λ l. inl (omega arith)) (lt-or-le j k)
@@ -42,42 +27,13 @@ OrderFrom blocks n order p limit above last left k =
     × ((j : ℕ) → j < k → p (getD order j 0) ≡ true → fieldOf blocks (getD order j 0) 1 ≤ last)
 
 module _ (blocks : List ℕ) (n : ℕ) (order : List ℕ) (ix : Indexed (referenceKey blocks) n order) where
-  abbrev key : ℕ → List ℕ
-  key = referenceKey blocks
-
   -- the round at an entry
   abbrev roundAt : ℕ → ℕ
   roundAt k = fieldOf blocks (getD order k 0) 1
 
-  rounds-rise : (k l : ℕ) → k ≤ l → l < n → roundAt k ≤ roundAt l
-  unfolding fieldOf keyAt
-  rounds-rise k l h m =
-      ⊎-elim
-      (λ e. rw e (omega arith))
-      (λ lt. first-le _ _ _ _ (entries-rise key n (ix .distinct) order (ix .rows) k l lt m))
-      (eq-or-lt-of-le h)
-
-  entry-there : (k : ℕ) → k < n → getD order k 0 < n
-  entry-there k h = entry-row key n (ix .distinct) order (ix .rows) k h .0
-
-  three : (x y : ℕ) → x + y ≡ 2 → (x ≡ 0) ⊎ ((x ≡ 1) ⊎ (y ≡ 0))
-  three x y e = ⊎-elim (λ l. inl (omega arith)) (λ l. ⊎-elim (λ m. inr (inl (omega arith))) (λ m. inr (inr (omega arith))) (lt-or-le x 2)) (lt-or-le x 1)
-
-  -- two rows of one place are one
-  place-one : (a b : ℕ) → a < n → b < n → placeOf key n a ≡ placeOf key n b → a ≡ b
-  place-one a b ha hb e =
-      ⊎-elim
-      (λ l. absurd (omega (arith, place-up key n a b ha l)))
-      (λ r. ⊎-elim (key-row key n (ix .distinct) a b ha hb) (λ g. absurd (omega (arith, place-up key n b a hb g))) r)
-      (three (orderOf (key a) (key b)) (orderOf (key b) (key a)) (order-turned (key a) (key b)))
-
-  -- so each row stands at an entry
-  entry-of : (row : ℕ) → row < n → (k : ℕ) × (k < n) × (getD order k 0 ≡ row)
-  entry-of row h =
-      let k = placeOf key n row in
-      let below = place-below key n row h in
-      let there = entry-row key n (ix .distinct) order (ix .rows) k below in
-      (k, below, place-one (getD order k 0) row (there .0) h (there .1))
+  in-order : (k l : ℕ) → k ≤ l → l < n → roundAt k ≤ roundAt l
+  unfolding fieldOf
+  in-order k l h m = rounds-rise blocks order n ix k l h m
 
   module _ (p : ℕ → Bool) (limit above : ℕ) where
     abbrev next : ℕ → ℕ
@@ -86,13 +42,17 @@ module _ (blocks : List ℕ) (n : ℕ) (order : List ℕ) (ix : Indexed (referen
     abbrev From : ℕ → ℕ → ℕ → Type 0
     From = OrderFrom blocks n order p limit above
 
-    pub order-none : From above limit 0
-    order-none = (omega arith, refl, λ j h. absurd (omega arith))
+    -- the rows before the first of that round are of lower ones
+    pub order-begins : (k : ℕ) → k ≡ roundEntry blocks order n above → From above limit k
+    unfolding fieldOf roundEntry
+    order-begins k e =
+        let fits = searched (referenceKey blocks) n (ix .distinct) order (ix .rows) (above ∷ []) .fits in
+        (omega (arith, e, fits), refl, λ j h q. omega (arith, lower blocks order n above ix j (omega (arith, e)) (omega (arith, e, fits))))
 
     module _ (last left k : ℕ) (inv : From last left k) where
       pub order-end : n ≤ k → last ≡ lastRound next limit above
       order-end h =
-          let z : next last ≡ 0 = next-not blocks p n last (λ j l e. none j (entry-of j l) e) in
+          let z : next last ≡ 0 = next-not blocks p n last (λ j l e. none j (entry-of blocks order n ix j l) e) in
           sym (⊎-elim (λ l. last-stop next left last l z) (λ l. last-done next left last l) (lt-or-le 0 left)) ∙ inv .1
         where
           none : (j : ℕ) → (i : ℕ) × (i < n) × (getD order i 0 ≡ j) → p j ≡ true → fieldOf blocks j 1 ≤ last
@@ -130,18 +90,18 @@ module _ (blocks : List ℕ) (n : ℕ) (order : List ℕ) (ix : Indexed (referen
 
           module _ (t : Bool) (et : t ≡ p row) (ok : t ≡ true) (lt : last < round) where
             least : (j : ℕ) → j < n → p j ≡ true → last < fieldOf blocks j 1 → fieldOf blocks row 1 ≤ fieldOf blocks j 1
-            least j hj e a = go (entry-of j hj)
+            least j hj e a = go (entry-of blocks order n ix j hj)
               where
                 go : (i : ℕ) × (i < n) × (getD order i 0 ≡ j) → fieldOf blocks row 1 ≤ fieldOf blocks j 1
                 go at =
                     let same : roundAt (at .0) ≡ fieldOf blocks j 1 = ap (λ (i : ℕ). fieldOf blocks i 1) (at .2) in
                     ⊎-elim
                     (λ l. absurd (omega (arith, inv .2 (at .0) l (ap p (at .2) ∙ e))))
-                    (λ l. omega (arith, rounds-rise k (at .0) l (at .1), here, ed))
+                    (λ l. omega (arith, in-order k (at .0) l (at .1), here, ed))
                     (lt-or-le (at .0) k)
 
             pub order-step : (left ≡ 0 → ⊥) → From round (left - 1) (k + 1)
             order-step some =
-                let rown : row < n = rw (← er) at (entry-there k h) in
+                let rown : row < n = rw (← er) at (entry-there blocks order n ix k h) in
                 let is : round ≡ next last = ed ∙ next-is blocks p n last row rown (sym et ∙ ok) (omega arith) least in
                 (omega arith, sym (last-step next left last round (omega arith) is (λ z. omega arith)) ∙ inv .1, passed round (omega arith) (omega arith))

@@ -3,7 +3,7 @@ use Prim.Native.Nat.{ℕ, zero, suc, _+_, _≤_, _<_}
 use lib.ListN.{length, getD, take, drop, drop-of-length-le, length-append}
 use lib.Seq.{drop-cons}
 use mathlib.Core.Bool.{Bool, true, false, cond}
-use mathlib.Core.List.{List, [], _∷_, _++_}
+use mathlib.Core.List.{List, [], _∷_, _++_, append-nil}
 use mathlib.Core.Logic.{_⊎_, inl, inr}
 use mathlib.Core.Path.{_≡_, refl, sym, ap, _∙_}
 use native.Mathlib.Nat.{le-refl, eq-or-lt-of-le, le-of-suc-le-suc}
@@ -38,10 +38,17 @@ rows-first p (suc n) k l e h = go (eq-or-lt-of-le (le-of-suc-le-suc l)) (λ m. r
     go (inl q) ih = rw (sym (ap (rowsBelow p) q) ∙ e, sym (ap p q) ∙ h) (ap (λ (x : ℕ). x ∷ []) (sym q))
     go (inr m) ih = take-front (rowsBelow p n) (cond (p n) (n ∷ []) []) k (ih m)
 
-pub rows-none : (p : ℕ → Bool) (n i : ℕ) → i ≤ n → n ≤ i → rowsBelow p i ≡ [] → [] ≡ take 1 (rowsBelow p n)
-rows-none p n i a b e =
-    let q : i ≡ n = omega arith in
-    sym (ap (take 1) (sym (ap (rowsBelow p) q) ∙ e))
+-- numbers that don't have p add none
+pub rows-front : (p : ℕ → Bool) (m n : ℕ) → m ≤ n → ((i : ℕ) → m ≤ i → i < n → p i ≡ false) → rowsBelow p m ≡ rowsBelow p n
+unfolding rowsBelow
+rows-front p m zero h none =
+    let q : m ≡ 0 = omega arith in
+    ap (rowsBelow p) q
+rows-front p m (suc n) h none = go (eq-or-lt-of-le h) (λ l. rows-front p m n l (λ i a b. none i a (omega arith)))
+  where
+    go : (m ≡ suc n) ⊎ (m < suc n) → (m ≤ n → rowsBelow p m ≡ rowsBelow p n) → rowsBelow p m ≡ rowsBelow p n ++ cond (p n) (n ∷ []) []
+    go (inl q) ih = ap (rowsBelow p) q
+    go (inr l) ih = rw (none n (le-of-suc-le-suc l) (omega arith), append-nil) (ih (le-of-suc-le-suc l))
 
 -- ---- each number of a list
 

@@ -9,7 +9,7 @@ use types::RoundNumber;
 ghost use mathlib.Core.Path.{_≡_};
 ghost use Rattle.store_queries.specs.Rows.{isWithin, passesOf};
 
-pub enum Filter {
+pub(crate) enum Filter {
     // every block
     Any,
     // the blocks of an authority
@@ -46,7 +46,7 @@ fn is_within(
 }
 
 // Whether the block in a row is wanted.
-pub fn passes(blocks: &[u64], filter: Filter, row: usize) -> bool
+pub(crate) fn passes(blocks: &[u64], filter: Filter, row: usize) -> bool
     ensures { λ r. ⌜ r ≡ passesOf (now (blocks .entry)) filter row ⌝ }
 {
     match filter {

@@ -1,18 +1,17 @@
 // The queries of the block store over the stored tables: block_store.rs. Each call tests the tables itself, with authorities below 128, and
 // refuses in the order of document 01's table: 3, 4, 8. No public function has a `requires`.
 pub mod answers; // what the queries answer
-pub mod filter; // which rows are wanted
+mod filter; // which rows are wanted
 pub mod lists; // the queries that fill an area with rows
 pub mod lookup; // the queries for one block, or whether there is one
-mod ordered; // rounds counted in one pass, by the rows in order
-pub mod parts; // the passes over the rows
+mod parts; // the passes over the rows
 pub mod rounds; // the queries for a round, the last own block and the number of blocks
+mod window; // where wanted rows stand, looked up through the rows in order
 
 pub use answers::FoundReference;
 pub use answers::FoundRound;
 pub use answers::FoundRow;
 pub use answers::FoundRows;
-pub use filter::Filter;
 pub use lists::get_blocks_at_authority_round;
 pub use lists::get_blocks_by_round;
 pub use lists::get_others_blocks;

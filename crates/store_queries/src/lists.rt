@@ -4,10 +4,9 @@ use crate::answers::FoundRows;
 use crate::filter::Filter;
 use crate::lookup::in_range;
 use crate::parts::fill_rows;
-use crate::parts::last_round;
-use block_store::sound::store_is_sound;
+use crate::window::Question;
+use crate::window::find;
 use types::AuthorityIndex;
-use types::MAX_AUTHORITIES;
 use types::ROUND_LIMIT;
 use types::Refusal;
 use types::RoundNumber;
@@ -32,7 +31,8 @@ fn rows_wanted(
     ensures { λ r. ⌜ reportedRows r ≡ asked (storeOf (now (blocks .entry)) (now (includes .entry)) stored) within (listed (rowsBelow (passesOf (now (blocks .entry)) filter) stored) (length (now (rows .entry)))) ⌝ }
     ensures { λ _. ⌜ now (rows .exit) ≡ areaOf (storeOf (now (blocks .entry)) (now (includes .entry)) stored) within (rowsBelow (passesOf (now (blocks .entry)) filter) stored) (length (now (rows .entry))) ⌝ }
 {
-    if !store_is_sound(MAX_AUTHORITIES, blocks, includes, stored) {
+    let found = find(blocks, includes, stored, Question::Rows(filter));
+    if !found.sound {
         clear(rows);
         return FoundRows::Refused(Refusal::BadTable);
     }
@@ -40,7 +40,8 @@ fn rows_wanted(
         clear(rows);
         return FoundRows::Refused(Refusal::BadArgument);
     }
-    fill_rows(blocks, stored, filter, rows)
+    let window = found.window;
+    fill_rows(blocks, window, filter, rows)
 }
 
 // The rows of an authority in the first `limit` rounds above `from_excluded` that hold a block which a filter wants.
@@ -57,7 +58,9 @@ fn rows_of_rounds(
     ensures { λ r. ⌜ reportedRows r ≡ asked (storeOf (now (blocks .entry)) (now (includes .entry)) stored) (inRange (authority .0) («from_excluded» .0)) (listed (rowsUpTo (now (blocks .entry)) (passesOf (now (blocks .entry)) filter) stored (authority .0) («from_excluded» .0) limit) (length (now (rows .entry)))) ⌝ }
     ensures { λ _. ⌜ now (rows .exit) ≡ areaOf (storeOf (now (blocks .entry)) (now (includes .entry)) stored) (inRange (authority .0) («from_excluded» .0)) (rowsUpTo (now (blocks .entry)) (passesOf (now (blocks .entry)) filter) stored (authority .0) («from_excluded» .0) limit) (length (now (rows .entry))) ⌝ }
 {
-    if !store_is_sound(MAX_AUTHORITIES, blocks, includes, stored) {
+    let question = Question::Rounds(filter, authority, from_excluded, limit);
+    let found = find(blocks, includes, stored, question);
+    if !found.sound {
         clear(rows);
         return FoundRows::Refused(Refusal::BadTable);
     }
@@ -65,10 +68,11 @@ fn rows_of_rounds(
         clear(rows);
         return FoundRows::Refused(Refusal::BadArgument);
     }
-    let last = last_round(blocks, stored, filter, from_excluded, limit);
+    let window = found.window;
+    let last = found.last;
     fill_rows(
         blocks,
-        stored,
+        window,
         Filter::Within(authority, from_excluded, last),
         rows,
     )

@@ -163,10 +163,6 @@ any-end p n i a b h =
 
 -- ---- the numbers below n that have p
 
-pub rows-zero : (p : ℕ → Bool) → rowsBelow p 0 ≡ []
-unfolding rowsBelow
-rows-zero p = refl
-
 pub rows-pass : (p : ℕ → Bool) (n : ℕ) → p n ≡ false → rowsBelow p (n + 1) ≡ rowsBelow p n
 unfolding rowsBelow
 rows-pass p n e = ap (rowsBelow p) (add-one n) ∙ rw e (append-nil (rowsBelow p n))

@@ -3,10 +3,10 @@ use Prim.Native.Nat.{ℕ, _*_, _≤_}
 use lib.ListN.{length, take}
 use mathlib.Core.Bool.{Bool, true, _&&_}
 use mathlib.Core.List.{List, []}
-use mathlib.Core.Path.{_≡_, refl, sym, ap, _∙_}
+use mathlib.Core.Path.{_≡_, refl, ap, _∙_}
 use native.Mathlib.Omega.{arith}
-use Rattle.block_store.proofs.Twins.{distinct-keys, sound-split}
-use Rattle.block_store.specs.Sound.{distinctRows, soundButTwins, soundStore}
+use Rattle.block_store.proofs.Ordered.{sound-indexed}
+use Rattle.block_store.specs.Sound.{soundStore}
 use Rattle.block_store.specs.Store.{Store}
 use Rattle.commit_walk.proofs.Halving.{sorted-part}
 use Rattle.commit_walk.specs.Rows.{SortedIf}
@@ -15,10 +15,9 @@ use Rattle.consensus.specs.Sound.{soundMemory}
 use Rattle.consensus.specs.Statuses.{statusWords}
 use Rattle.index.proofs.Searching.{indexed}
 use Rattle.index.proofs.Turns.{room-enough}
-use Rattle.index.specs.Keys.{referenceKey, positionKey, distinctKeys}
+use Rattle.index.specs.Keys.{referenceKey, positionKey}
 use Rattle.index.specs.Places.{hasRoom, orderedRows, frontAfter}
-use Rattle.index.specs.Search.{Indexed}
-use Rattle.types.proofs.Tests.{both-right, and-false, by-test}
+use Rattle.types.proofs.Tests.{and-false, by-test}
 use Rattle.types.specs.Limits.{maxBlocks}
 use Rattle.types.specs.Reports.{Gives, Refuses}
 use Rattle.universal_committer.specs.Calls.{RoomFor, InOrder}
@@ -39,13 +38,6 @@ module _ (size : ℕ) (s : Store) (rows work : ℕ) (fits : RoomFor (s .count) r
       (λ e. ap (λ (r : Bool). r && soundStore size s) (room-is e))
       (λ e. rw (e, and-false) refl)
 
-  store-indexed : (area order : List ℕ) → soundStore size s ≡ true → order ≡ frontAfter (hasRoom (s .count) rows work) (s .count) (orderedRows (referenceKey (s .blocks)) (s .count)) area
-      → Indexed (referenceKey (s .blocks)) (s .count) order
-  store-indexed area order e eo =
-      let d : distinctKeys (referenceKey (s .blocks)) (s .count) ≡ true =
-      distinct-keys (s .blocks) (s .count) ∙ both-right (soundButTwins size s) (distinctRows (s .blocks) (s .count)) (sym (sound-split size s) ∙ e) in
-      indexed (referenceKey (s .blocks)) (s .count) (hasRoom (s .count) rows work) area order (room-is e) d eo
-
 -- ---- both
 pub ordered : (size : ℕ) (s : Store) (memory : List ℕ) (decided : ℕ) (order₀ order places₀ places : List ℕ) (work work′ : ℕ)
     → RoomFor (s .count) (length order₀) work → soundStore size s ≡ true → soundMemory size (s .blocks) (s .count) memory decided ≡ true
@@ -55,7 +47,7 @@ pub ordered : (size : ℕ) (s : Store) (memory : List ℕ) (decided : ℕ) (orde
     → InOrder s order memory decided (hasRoom decided (length places₀) work) places
 ordered size s memory decided order₀ order places₀ places work work′ fits e m eo ew em =
     record {
-      stored-rows = store-indexed size s (length order₀) work fits order₀ order e eo;
+      stored-rows = sound-indexed size s (length order₀) work order₀ order (room-is size s (length order₀) work fits e) e eo;
       decisions = λ r. indexed (positionKey memory) decided (hasRoom decided (length places₀) work′) places₀ places
           (ap (hasRoom decided (length places₀)) ew ∙ r) (memory-distinct size (s .blocks) (s .count) memory decided m) em;
     }

@@ -10,7 +10,7 @@ use block_store::sound::MAX_BLOCKS;
 use committee::Committee;
 use committee::parts::is_sound;
 use committee::parts::stake_words;
-use consensus::sound::has_room;
+use index::build::has_room;
 use types::AuthorRound;
 use types::ROUND_LIMIT;
 use types::Refusal;

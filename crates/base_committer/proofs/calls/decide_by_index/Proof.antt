@@ -2,8 +2,9 @@
 use borrow.Author.Needs.{needs}
 use borrow.Author.Tests.{not-false}
 use lib.ListN.{length}
-use Rattle.base_committer.proofs.Answers.{failed, passed, no-table, by-rule, tables-are, in-order}
+use Rattle.base_committer.proofs.Answers.{failed, passed, no-table, by-rule}
 use Rattle.base_committer.specs.declared.calls.Rule.the-variants.{Direct, Indirect}
+use Rattle.block_store.proofs.Ordered.{tables-are, tables-indexed}
 use Rattle.block_store.specs.Store.{storeOf}
 use Rattle.base_committer.proofs.calls.decide_by_index.Statement.{statement}
 use Rattle.base_committer.proofs.calls.decide_by_index.Tie as tie
@@ -28,7 +29,7 @@ enum-told c = search needs
 direct-of-sound-requires : tie.Need-direct-of-sound-requires
 direct-of-sound-requires c κs =
     let a = c .before .before .before .before .before .before .before .before .before .before .before .before .before .before .before .before .before .args in
-    (c .before .before .before .before .before .before .before .before .before .before .before .before .before .before .before .before .before .pre .0, (passed _ _ (tables-are (a .committee .size) (storeOf (a .blocks .now) (a .includes .now) (a .stored)) _ _ _ (c .before .before .before .before .before .before .before .before .before .before .before .before .before .before .before .before .before .pre .1 .0 .0) (c .before .before .before .before .before .before .before .before .before .before .before .before .before .before .before .before .before .pre .1 .0 .1 .0) (c .before .before .before .before .before .before .before .before .before .before .before .before .before .before .before .before .before .pre .1 .0 .1 .1) (c .before .before .before .before .before .before .before .before .store-is-sound-by .ensures .0)) (c .before .before .before .if1 .left), in-order (a .committee .size) (storeOf (a .blocks .now) (a .includes .now) (a .stored)) _ _ _ (c .before .before .before .before .before .before .before .before .before .before .before .before .before .before .before .before .before .pre .1 .0 .0) (c .before .before .before .before .before .before .before .before .before .before .before .before .before .before .before .before .before .pre .1 .0 .1 .0) (c .before .before .before .before .before .before .before .before .before .before .before .before .before .before .before .before .before .pre .1 .0 .1 .1) (c .before .before .before .before .before .before .before .before .store-is-sound-by .ensures .0) (a .order .now) _ (not-false _ (c .before .before .before .if1 .left)) (c .before .before .before .before .before .before .before .before .store-is-sound-by .ensures .1 .0)))
+    (c .before .before .before .before .before .before .before .before .before .before .before .before .before .before .before .before .before .pre .0, (passed _ _ (tables-are (a .committee .size) (storeOf (a .blocks .now) (a .includes .now) (a .stored)) _ _ _ (c .before .before .before .before .before .before .before .before .before .before .before .before .before .before .before .before .before .pre .1 .0 .0) (c .before .before .before .before .before .before .before .before .before .before .before .before .before .before .before .before .before .pre .1 .0 .1 .0) (c .before .before .before .before .before .before .before .before .before .before .before .before .before .before .before .before .before .pre .1 .0 .1 .1) (c .before .before .before .before .before .before .before .before .store-is-sound-by .ensures .0)) (c .before .before .before .if1 .left), tables-indexed (a .committee .size) (storeOf (a .blocks .now) (a .includes .now) (a .stored)) _ _ _ (c .before .before .before .before .before .before .before .before .before .before .before .before .before .before .before .before .before .pre .1 .0 .0) (c .before .before .before .before .before .before .before .before .before .before .before .before .before .before .before .before .before .pre .1 .0 .1 .0) (c .before .before .before .before .before .before .before .before .before .before .before .before .before .before .before .before .before .pre .1 .0 .1 .1) (c .before .before .before .before .before .before .before .before .store-is-sound-by .ensures .0) (a .order .now) _ (not-false _ (c .before .before .before .if1 .left)) (c .before .before .before .before .before .before .before .before .store-is-sound-by .ensures .1 .0)))
 
 enum-told-2 : tie.Need-enum-told-2
 enum-told-2 c = search needs
@@ -36,7 +37,7 @@ enum-told-2 c = search needs
 indirect-of-sound-requires : tie.Need-indirect-of-sound-requires
 indirect-of-sound-requires c κs =
     let a = c .before .before .before .before .before .before .before .before .before .before .before .before .before .before .before .before .before .before .args in
-    (c .before .before .before .before .before .before .before .before .before .before .before .before .before .before .before .before .before .before .pre .0, (passed _ _ (tables-are (a .committee .size) (storeOf (a .blocks .now) (a .includes .now) (a .stored)) _ _ _ (c .before .before .before .before .before .before .before .before .before .before .before .before .before .before .before .before .before .before .pre .1 .0 .0) (c .before .before .before .before .before .before .before .before .before .before .before .before .before .before .before .before .before .before .pre .1 .0 .1 .0) (c .before .before .before .before .before .before .before .before .before .before .before .before .before .before .before .before .before .before .pre .1 .0 .1 .1) (c .before .before .before .before .before .before .before .before .before .store-is-sound-by .ensures .0)) (c .before .before .before .before .if1 .left), (in-order (a .committee .size) (storeOf (a .blocks .now) (a .includes .now) (a .stored)) _ _ _ (c .before .before .before .before .before .before .before .before .before .before .before .before .before .before .before .before .before .before .pre .1 .0 .0) (c .before .before .before .before .before .before .before .before .before .before .before .before .before .before .before .before .before .before .pre .1 .0 .1 .0) (c .before .before .before .before .before .before .before .before .before .before .before .before .before .before .before .before .before .before .pre .1 .0 .1 .1) (c .before .before .before .before .before .before .before .before .before .store-is-sound-by .ensures .0) (a .order .now) _ (not-false _ (c .before .before .before .before .if1 .left)) (c .before .before .before .before .before .before .before .before .before .store-is-sound-by .ensures .1 .0), c .before .before .before .before .before .before .before .before .before .before .before .before .before .before .before .before .before .before .pre .1 .1)))
+    (c .before .before .before .before .before .before .before .before .before .before .before .before .before .before .before .before .before .before .pre .0, (passed _ _ (tables-are (a .committee .size) (storeOf (a .blocks .now) (a .includes .now) (a .stored)) _ _ _ (c .before .before .before .before .before .before .before .before .before .before .before .before .before .before .before .before .before .before .pre .1 .0 .0) (c .before .before .before .before .before .before .before .before .before .before .before .before .before .before .before .before .before .before .pre .1 .0 .1 .0) (c .before .before .before .before .before .before .before .before .before .before .before .before .before .before .before .before .before .before .pre .1 .0 .1 .1) (c .before .before .before .before .before .before .before .before .before .store-is-sound-by .ensures .0)) (c .before .before .before .before .if1 .left), (tables-indexed (a .committee .size) (storeOf (a .blocks .now) (a .includes .now) (a .stored)) _ _ _ (c .before .before .before .before .before .before .before .before .before .before .before .before .before .before .before .before .before .before .pre .1 .0 .0) (c .before .before .before .before .before .before .before .before .before .before .before .before .before .before .before .before .before .before .pre .1 .0 .1 .0) (c .before .before .before .before .before .before .before .before .before .before .before .before .before .before .before .before .before .before .pre .1 .0 .1 .1) (c .before .before .before .before .before .before .before .before .before .store-is-sound-by .ensures .0) (a .order .now) _ (not-false _ (c .before .before .before .before .if1 .left)) (c .before .before .before .before .before .before .before .before .before .store-is-sound-by .ensures .1 .0), c .before .before .before .before .before .before .before .before .before .before .before .before .before .before .before .before .before .before .pre .1 .1)))
 
 same-length-3 : tie.Need-same-length-3
 same-length-3 c = search needs

@@ -1,12 +1,13 @@
 -- What is left to write says as much as the whole, what is left to look for too, and what is written is cleared. Assumes nothing.
 use Prim.Native.Nat.{_≤_, _-_, _+_, _*_, _/_}
 use borrow.Author.Needs.{needs}
+use borrow.Rule.Slice.PartMut.{putMid}
 use lib.ListN.{length, drop, set, replicate, length-set}
 use lib.Seq.{sets}
 use mathlib.Core.List.{map}
 use mathlib.Core.Path.{_≡_, sym, ap, _∙_, refl}
 use native.Mathlib.Omega.{arith}
-use Rattle.block_manager.proofs.Room.{set-cleared}
+use Rattle.block_manager.proofs.Room.{part-cleared, set-cleared}
 use Rattle.block_tables.proofs.Lookups.{looked-up, found-next, found-stop, found-end, all-looked-up}
 use Rattle.block_tables.proofs.Loops.{rows-next, rows-end}
 use Rattle.block_tables.specs.Reading.{lookedUp, allFound}
@@ -34,8 +35,23 @@ reference-in-requires c κs = search needs
 row-in-requires : tie.Need-row-in-requires Inv-loop μ-loop
 row-in-requires c κs = search needs
 
-erase-requires : tie.Need-erase-requires Inv-loop μ-loop
-erase-requires c κs = omega (arith, c .before .before .before .before .before .before .before .before .before .before .pre .1 .inside, c .before .before .before .before .before .loop .inv .1, c .before .before .before .before .before .loop .inv .2)
+add-clear : tie.Need-add-clear Inv-loop μ-loop
+add-clear c = omega (arith, c .before .before .before .before .before .before .before .before .before .pre .1 .inside, c .before .before .before .before .loop .inv .1, c .before .before .before .before .loop .inv .2)
+
+mul-clear : tie.Need-mul-clear Inv-loop μ-loop
+mul-clear c = omega (arith, c .before .before .before .before .before .before .before .before .before .pre .1 .inside, c .before .before .before .before .loop .inv .1, c .before .before .before .before .loop .inv .2)
+
+sub-clear : tie.Need-sub-clear Inv-loop μ-loop
+sub-clear c = search needs
+
+part-clear-start : tie.Need-part-clear-start Inv-loop μ-loop
+part-clear-start c = search needs
+
+part-clear-end : tie.Need-part-clear-end Inv-loop μ-loop
+part-clear-end c = omega (arith, c .before .before .before .before .before .before .before .before .before .pre .1 .inside, c .before .before .before .before .loop .inv .1, c .before .before .before .before .loop .inv .2)
+
+clear-requires : tie.Need-clear-requires Inv-loop μ-loop
+clear-requires c κs = search needs
 
 same-length : tie.Need-same-length Inv-loop μ-loop
 same-length c = search needs
@@ -45,7 +61,7 @@ returns c =
     let a = c .before .before .before .before .before .before .before .before .before .before .before .before .before .args in
     let row = lookedUp (a .blocks .now) (a .order .now) (a .sorted) (a .stored) in
     let at = c .before .before .before .before .before .row-in .ensures ∙ ap row (c .before .before .before .before .before .before .reference-in .ensures) in
-    (found-stop row (a .stored) (a .list .now) (c .before .before .before .before .before .before .before .before .loop .k) (omega (arith, c .before .before .before .before .before .before .before .before .loop .inv .1)) (omega (arith, at)) ∙ c .before .before .before .before .before .before .before .before .loop .inv .5 ∙ all-looked-up (a .blocks .now) (a .order .now) (a .sorted) (a .stored) (c .before .before .before .before .before .before .before .before .before .before .before .before .before .pre .0) (refsIn (a .list .now)), c .before .before .erase .ensures ∙ c .before .before .before .before .before .before .before .before .loop .inv .4)
+    (found-stop row (a .stored) (a .list .now) (c .before .before .before .before .before .before .before .before .loop .k) (omega (arith, c .before .before .before .before .before .before .before .before .loop .inv .1)) (omega (arith, at)) ∙ c .before .before .before .before .before .before .before .before .loop .inv .5 ∙ all-looked-up (a .blocks .now) (a .order .now) (a .sorted) (a .stored) (c .before .before .before .before .before .before .before .before .before .before .before .before .before .pre .0) (refsIn (a .list .now)), ap (λ l. putMid (a .at) (a .at + length (a .list .now) / 6 - a .at) (c .before .before .before .before .before .before .before .before .loop .includes) l) (c .before .before .clear .ensures) ∙ part-cleared (c .before .before .before .before .before .before .before .before .loop .includes) (a .at) (length (a .list .now) / 6) (omega (arith, c .before .before .before .before .before .before .before .before .before .before .before .before .before .pre .1 .inside, c .before .before .before .before .before .before .before .before .loop .inv .1, c .before .before .before .before .before .before .before .before .loop .inv .2)) ∙ c .before .before .before .before .before .before .before .before .loop .inv .4)
 
 add-includes : tie.Need-add-includes Inv-loop μ-loop
 add-includes c = omega (arith, c .before .before .before .before .before .before .before .before .before .pre .1 .inside, c .before .before .before .before .loop .inv .1)
@@ -88,7 +104,12 @@ put-rows-spec =
     loop-holds
     reference-in-requires
     row-in-requires
-    erase-requires
+    add-clear
+    mul-clear
+    sub-clear
+    part-clear-start
+    part-clear-end
+    clear-requires
     same-length
     returns
     add-includes

@@ -1,18 +1,21 @@
--- `rows_of_rounds` meets its contract. Refused for the tables, for the arguments, or filled up to the last of the rounds. Assumes nothing.
+-- `rows_of_rounds` meets its contract. Refused, or filled from the window up to the last of the rounds. Assumes nothing.
 use Prim.Native.Nat.{ℕ}
 use borrow.Author.Needs.{needs}
 use borrow.Author.Tests.{not-true, not-false}
 use lib.ListN.{length}
+use mathlib.Core.List.{List}
 use mathlib.Core.Path.{sym, ap, _∙_}
 use Rattle.block_store.specs.Store.{storeOf}
 use Rattle.store_queries.proofs.Calls.{bad-table, bad-argument, answered, table-area, argument-area, answered-area}
-use Rattle.store_queries.specs.Rows.{isWithin, listed, filled, rowsUpTo}
+use Rattle.store_queries.proofs.Finding.{not-sound, are-sound, answered-by}
+use Rattle.store_queries.proofs.Windows.{window-rows}
+use Rattle.store_queries.specs.Rows.{listed, filled, rowsUpTo, isWithin}
 use Rattle.types.specs.Below.{rowsBelow}
 use Rattle.store_queries.proofs.lists.rows_of_rounds.Statement.{statement}
 use Rattle.store_queries.proofs.lists.rows_of_rounds.Tie as tie
 
-store-is-sound-requires : tie.Need-store-is-sound-requires
-store-is-sound-requires c κs = search needs
+find-requires : tie.Need-find-requires
+find-requires c κs = search needs
 
 clear-requires : tie.Need-clear-requires
 clear-requires c κs = search needs
@@ -22,8 +25,10 @@ same-length c = search needs
 
 returns : tie.Need-returns
 returns c =
-    let a = c .before .before .before .before .before .before .before .before .before .args in
-    (bad-table (storeOf (a .blocks .now) (a .includes .now) (a .stored)) _ _ (sym (c .before .before .before .before .before .store-is-sound .ensures) ∙ not-true _ (c .before .before .before .before .if1 .taken)), c .before .before .clear .ensures ∙ table-area (storeOf (a .blocks .now) (a .includes .now) (a .stored)) _ _ _ (sym (c .before .before .before .before .before .store-is-sound .ensures) ∙ not-true _ (c .before .before .before .before .if1 .taken)))
+    let a = c .before .before .before .before .before .before .before .before .before .before .args in
+    let s = storeOf (a .blocks .now) (a .includes .now) (a .stored) in
+    let no = not-sound s _ _ (c .before .before .before .before .before .before .find .ensures) (c .before .before .before .before .if1 .taken) in
+    (bad-table s _ _ no, c .before .before .clear .ensures ∙ table-area s _ _ _ no)
 
 in-range-requires : tie.Need-in-range-requires
 in-range-requires c κs = search needs
@@ -36,14 +41,16 @@ same-length-2 c = search needs
 
 returns-2 : tie.Need-returns-2
 returns-2 c =
-    let a = c .before .before .before .before .before .before .before .before .before .before .before .args in
-    (bad-argument (storeOf (a .blocks .now) (a .includes .now) (a .stored)) _ _ (sym (c .before .before .before .before .before .before .before .store-is-sound .ensures) ∙ not-false _ (c .before .before .before .before .before .before .if1 .left)) (sym (c .before .before .before .before .before .in-range .ensures) ∙ not-true _ (c .before .before .before .before .if2 .taken)), c .before .before .clear2 .ensures ∙ argument-area (storeOf (a .blocks .now) (a .includes .now) (a .stored)) _ _ _ (sym (c .before .before .before .before .before .in-range .ensures) ∙ not-true _ (c .before .before .before .before .if2 .taken)))
-
-last-round-requires : tie.Need-last-round-requires
-last-round-requires c κs = search needs
+    let a = c .before .before .before .before .before .before .before .before .before .before .before .before .args in
+    let s = storeOf (a .blocks .now) (a .includes .now) (a .stored) in
+    let no = sym (c .before .before .before .before .before .in-range .ensures) ∙ not-true _ (c .before .before .before .before .if2 .taken) in
+    (bad-argument s _ _ (are-sound s _ _ (c .before .before .before .before .before .before .before .before .find .ensures) (c .before .before .before .before .before .before .if1 .left)) no, c .before .before .clear2 .ensures ∙ argument-area s _ _ _ no)
 
 fill-rows-requires : tie.Need-fill-rows-requires
-fill-rows-requires c κs = search needs
+fill-rows-requires c κs =
+    let a = c .before .before .before .before .before .before .before .before .before .before .before .args in
+    let s = storeOf (a .blocks .now) (a .includes .now) (a .stored) in
+    answered-by s _ _ (c .before .before .before .before .before .before .before .find .ensures) (c .before .before .before .before .before .if1 .left) .1 .opens
 
 same-length-3 : tie.Need-same-length-3
 same-length-3 c = search needs
@@ -51,14 +58,19 @@ same-length-3 c = search needs
 returns-3 : tie.Need-returns-3
 unfolding rowsUpTo
 returns-3 c =
-    let a = c .before .before .before .before .before .before .before .before .before .before .before .before .args in
-    (c .before .before .fill-rows .ensures .0 ∙ ap (λ (n : ℕ). listed (rowsBelow (isWithin (a .blocks .now) (a .authority .0) (a .from-excluded .0) n) (a .stored)) (length (a .rows .now))) (c .before .before .before .before .last-round .ensures) ∙ answered (storeOf (a .blocks .now) (a .includes .now) (a .stored)) _ _ (sym (c .before .before .before .before .before .before .before .before .store-is-sound .ensures) ∙ not-false _ (c .before .before .before .before .before .before .before .if1 .left)) (sym (c .before .before .before .before .before .before .in-range .ensures) ∙ not-false _ (c .before .before .before .before .before .if2 .left)), c .before .before .fill-rows .ensures .1 ∙ ap (λ (n : ℕ). filled (rowsBelow (isWithin (a .blocks .now) (a .authority .0) (a .from-excluded .0) n) (a .stored)) (length (a .rows .now))) (c .before .before .before .before .last-round .ensures) ∙ answered-area (storeOf (a .blocks .now) (a .includes .now) (a .stored)) _ _ _ (sym (c .before .before .before .before .before .before .before .before .store-is-sound .ensures) ∙ not-false _ (c .before .before .before .before .before .before .before .if1 .left)) (sym (c .before .before .before .before .before .before .in-range .ensures) ∙ not-false _ (c .before .before .before .before .before .if2 .left)))
+    let a = c .before .before .before .before .before .before .before .before .before .before .before .before .before .before .args in
+    let s = storeOf (a .blocks .now) (a .includes .now) (a .stored) in
+    let found = answered-by s _ _ (c .before .before .before .before .before .before .before .before .before .before .find .ensures) (c .before .before .before .before .before .before .before .before .if1 .left) in
+    let rows = window-rows _ (a .stored) _ (found .1) ∙ ap (λ (m : ℕ). rowsBelow (isWithin (a .blocks .now) (a .authority .0) (a .from-excluded .0) m) (a .stored)) (found .0) in
+    let yes = are-sound s _ _ (c .before .before .before .before .before .before .before .before .before .before .find .ensures) (c .before .before .before .before .before .before .before .before .if1 .left) in
+    let within = sym (c .before .before .before .before .before .before .before .in-range .ensures) ∙ not-false _ (c .before .before .before .before .before .before .if2 .left) in
+    (c .before .before .fill-rows .ensures .0 ∙ ap (λ (l : List ℕ). listed l (length (a .rows .now))) rows ∙ answered s _ _ yes within, c .before .before .fill-rows .ensures .1 ∙ ap (λ (l : List ℕ). filled l (length (a .rows .now))) rows ∙ answered-area s _ _ _ yes within)
 
 pub rows-of-rounds-spec : {M : Type 1} → statement M
 rows-of-rounds-spec =
     tie.close
     (tie.spec
-    store-is-sound-requires
+    find-requires
     clear-requires
     same-length
     returns
@@ -66,7 +78,6 @@ rows-of-rounds-spec =
     clear-requires-2
     same-length-2
     returns-2
-    last-round-requires
     fill-rows-requires
     same-length-3
     returns-3)

@@ -1,41 +1,50 @@
--- `get_block` meets its contract. Refused for the tables, for the reference, or the first row of the block. Assumes nothing.
+-- `get_block` meets its contract. Refused for the tables, for the reference, or the first row of the window. Assumes nothing.
 use borrow.Author.Needs.{needs}
 use borrow.Author.Tests.{not-true, not-false}
-use mathlib.Core.Path.{sym, _∙_}
+use mathlib.Core.Path.{ap, _∙_, sym}
 use Rattle.block_store.specs.Store.{storeOf}
 use Rattle.store_queries.proofs.Calls.{bad-table, bad-argument, answered}
+use Rattle.store_queries.proofs.Finding.{not-sound, are-sound, answered-by}
+use Rattle.store_queries.proofs.Windows.{window-some, window-none}
 use Rattle.store_queries.specs.Queries.{getBlock}
+use Rattle.types.specs.Reports.{Gives}
 use Rattle.store_queries.proofs.lookup.get_block.Statement.{statement}
 use Rattle.store_queries.proofs.lookup.get_block.Tie as tie
 
-store-is-sound-requires : tie.Need-store-is-sound-requires
-store-is-sound-requires c κs = search needs
+find-requires : tie.Need-find-requires
+find-requires c κs = search needs
 
 returns : tie.Need-returns
 unfolding getBlock
-returns c = bad-table (storeOf (c .before .before .before .before .args .blocks .now) (c .before .before .before .before .args .includes .now) (c .before .before .before .before .args .stored)) _ _ (sym (c .before .store-is-sound .ensures) ∙ not-true _ (c .if1 .taken))
+returns c =
+    let a = c .before .before .before .before .before .args in
+    let s = storeOf (a .blocks .now) (a .includes .now) (a .stored) in
+    bad-table s _ _ (not-sound s _ _ (c .before .before .find .ensures) (c .if1 .taken))
 
 in-range-requires : tie.Need-in-range-requires
 in-range-requires c κs = search needs
 
 returns-2 : tie.Need-returns-2
 unfolding getBlock
-returns-2 c = bad-argument (storeOf (c .before .before .before .before .before .before .args .blocks .now) (c .before .before .before .before .before .before .args .includes .now) (c .before .before .before .before .before .before .args .stored)) _ _ (sym (c .before .before .before .store-is-sound .ensures) ∙ not-false _ (c .before .before .if1 .left)) (sym (c .before .in-range .ensures) ∙ not-true _ (c .if2 .taken))
-
-first-row-requires : tie.Need-first-row-requires
-first-row-requires c κs = search needs
+returns-2 c =
+    let a = c .before .before .before .before .before .before .before .args in
+    let s = storeOf (a .blocks .now) (a .includes .now) (a .stored) in
+    bad-argument s _ _ (are-sound s _ _ (c .before .before .before .before .find .ensures) (c .before .before .if1 .left)) (sym (c .before .in-range .ensures) ∙ not-true _ (c .if2 .taken))
 
 returns-3 : tie.Need-returns-3
 unfolding getBlock
-returns-3 c = c .first-row .ensures ∙ answered (storeOf (c .before .before .before .before .before .before .before .args .blocks .now) (c .before .before .before .before .before .before .before .args .includes .now) (c .before .before .before .before .before .before .before .args .stored)) _ _ (sym (c .before .before .before .before .store-is-sound .ensures) ∙ not-false _ (c .before .before .before .if1 .left)) (sym (c .before .before .in-range .ensures) ∙ not-false _ (c .before .if2 .left))
+returns-3 c =
+    let a = c .before .before .before .before .before .before .before .before .before .before .args in
+    let s = storeOf (a .blocks .now) (a .includes .now) (a .stored) in
+    ap Gives (window-some _ (a .stored) _ (answered-by s _ _ (c .before .before .before .before .before .before .before .find .ensures) (c .before .before .before .before .before .if1 .left)) (c .if3 .taken)) ∙ answered s _ _ (are-sound s _ _ (c .before .before .before .before .before .before .before .find .ensures) (c .before .before .before .before .before .if1 .left)) (sym (c .before .before .before .before .in-range .ensures) ∙ not-false _ (c .before .before .before .if2 .left))
+
+returns-4 : tie.Need-returns-4
+unfolding getBlock
+returns-4 c =
+    let a = c .before .before .before .before .before .before .before .before .before .before .args in
+    let s = storeOf (a .blocks .now) (a .includes .now) (a .stored) in
+    ap Gives (window-none _ (a .stored) _ (answered-by s _ _ (c .before .before .before .before .before .before .before .find .ensures) (c .before .before .before .before .before .if1 .left)) (c .if3 .left)) ∙ answered s _ _ (are-sound s _ _ (c .before .before .before .before .before .before .before .find .ensures) (c .before .before .before .before .before .if1 .left)) (sym (c .before .before .before .before .in-range .ensures) ∙ not-false _ (c .before .before .before .if2 .left))
 
 pub get-block-spec : {M : Type 1} → statement M
 get-block-spec =
-    tie.close
-    (tie.spec
-    store-is-sound-requires
-    returns
-    in-range-requires
-    returns-2
-    first-row-requires
-    returns-3)
+    tie.close (tie.spec find-requires returns in-range-requires returns-2 returns-3 returns-4)
