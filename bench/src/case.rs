@@ -75,6 +75,7 @@ fn by_turns<A: PartialEq + Debug>(
     let mut costs = [Cost::MOST; 3];
     for _ in 0..meter.turns() {
         let (expected, original) = theirs();
+        assert!(test()); // now our tables are near, as the original's were
         let (answer, our) = ours();
         assert_eq!(answer, expected);
         let (sound, test) = meter.measure(&test);
@@ -141,10 +142,11 @@ impl Case<'_> {
         let reference = self.dag.rows[row].reference();
         let includes = &self.dag.rows[row].includes;
         let list: Vec<u64> = includes.iter().flat_map(|i| self.dag.rows[*i].reference()).collect();
-        // once on a copy, so that the stack is there, as it is for the original
+        // once on a copy and one more test, so that the stack is there and the tables are near, as the original's are
         ours::add_block(&self.stakes, &mut t.clone(), &reference, &list);
-        let (sound, test) =
-            self.meter.measure(|| ours::committee_is_sound(&self.stakes) && ours::tables_are_sound(self.size(), &t));
+        let tested = || ours::committee_is_sound(&self.stakes) && ours::tables_are_sound(self.size(), &t);
+        assert!(tested());
+        let (sound, test) = self.meter.measure(tested);
         assert!(sound);
         let (reply, ours) = self.meter.measure(|| ours::add_block(&self.stakes, &mut t, &reference, &list));
         assert_eq!(reply, ours::Reply { code: 0, first: 1, second: grown as u64 });
