@@ -1,4 +1,5 @@
-// The lent tables of the stored side, together: the rows, the includes, and how many rows are used.
+// The lent tables of the stored side, together: the rows, the includes, and how many rows are used. Tables are words with a count, since relays
+// lend fixed memory, and the library has no heap.
 ghost use Rattle.std.specs.Prelude.{◌≡◌, ◌&&◌, ◌+◌, ◌*◌, ◌≤◌, ◌<◌, length, replicate};
 ghost use Rattle.index.specs.Keys.{reference_key};
 ghost use Rattle.index.specs.Places.{has_room, ordered_rows, front_after};
@@ -13,10 +14,11 @@ use crate::distinct::are_distinct;
 use crate::parts::{BLOCK_WORDS, count_at, first_at};
 use crate::sound::{all_lower, cell, sizes_are_sound, zero_from};
 use index::build::index_references;
+use types::refusal::refuse_unless;
 use types::words::index;
-use types::{MAX_AUTHORITIES, MAX_INCLUDES, ROUND_LIMIT, Refusal, Verdict};
+use types::{MAX_AUTHORITIES, MAX_INCLUDES, ROUND_LIMIT, Refusal};
 
-#[derive(Clone, Copy)]
+#[derive(Clone, Copy, Debug, PartialEq, Eq)]
 pub struct Stored<'b, 'a> {
     pub blocks: &'b [u64],
     pub includes: &'a [u64],
@@ -86,44 +88,34 @@ impl<'a> Stored<'_, 'a> {
     }
 
     // Whether the tables are sound, with authorities below `size`, but for rows that share a reference.
+    #[tactic(auto, unfolding(crate::specs::Sound::sound_but_twins))]
     pub fn is_sound_but_twins(&self, size: u64) -> bool
         ensures { result ≡ sound_but_twins size (store_in self.now) }
     {
-        if !sizes_are_sound(self.blocks.len(), self.includes.len(), self.stored) {
-            return false;
-        }
-        if !self.rows_are_sound(size) {
-            return false;
-        }
-        zero_from(self.blocks, self.stored * BLOCK_WORDS)
+        sizes_are_sound(self.blocks.len(), self.includes.len(), self.stored)
+            && (self.rows_are_sound(size) && zero_from(self.blocks, self.stored * BLOCK_WORDS))
     }
 
     // Whether the tables are sound, with authorities below `size`.
-    pub fn is_sound(self, size: u64) -> bool
-        ensures { result ≡ sound_store size (store_in self.entry) }
+    pub fn is_sound(&self, size: u64) -> bool
+        ensures { result ≡ sound_store size (store_in self.now) }
     {
-        if !self.is_sound_but_twins(size) {
-            return false;
-        }
-        are_distinct(self.blocks, self.stored)
+        self.is_sound_but_twins(size) && are_distinct(self.blocks, self.stored)
     }
 
     // The same for a call that goes on to look rows up: afterwards the front of `order` has the stored rows in the order of their references, zeros
     // where two share one. Both areas need an entry for each stored row, else nothing happens and the answer is no; those of `work` are zero afterwards.
-    pub fn is_sound_by(self, size: u64, order: &mut [u16], work: &mut [u16]) -> bool
-        ensures value { result ≡ (has_room self.entry.stored (length order.old) (length work.old) && sound_store size (store_in self.entry)) }
-        ensures order { order.new ≡ front_after (has_room self.entry.stored (length order.old) (length work.old)) self.entry.stored (ordered_rows (reference_key self.entry.blocks.now) self.entry.stored) order.old }
-        ensures work { work.new ≡ front_after (has_room self.entry.stored (length order.old) (length work.old)) self.entry.stored (replicate self.entry.stored 0) work.old }
+    pub fn is_sound_by(&self, size: u64, order: &mut [u16], work: &mut [u16]) -> bool
+        ensures value { result ≡ (has_room self.now.stored (length order.old) (length work.old) && sound_store size (store_in self.now)) }
+        ensures order { order.new ≡ front_after (has_room self.now.stored (length order.old) (length work.old)) self.now.stored (ordered_rows (reference_key self.now.blocks.now) self.now.stored) order.old }
+        ensures work { work.new ≡ front_after (has_room self.now.stored (length order.old) (length work.old)) self.now.stored (replicate self.now.stored 0) work.old }
     {
-        if !index_references(self.blocks, self.stored, order, work) {
-            return false;
-        }
-        self.is_sound_but_twins(size)
+        index_references(self.blocks, self.stored, order, work) && self.is_sound_but_twins(size)
     }
 
     // The includes of a row, as that stretch of the lent include table; empty where the check gives 3 or 4.
-    pub fn includes(self, row: usize) -> &'a [u64]
-        ensures { result.now ≡ includes_given (store_in self.entry) row }
+    pub fn includes(&self, row: usize) -> &'a [u64]
+        ensures { result.now ≡ includes_given (store_in self.now) row }
     {
         if !self.is_sound(MAX_AUTHORITIES) {
             return &self.includes[..0];
@@ -132,15 +124,11 @@ impl<'a> Stored<'_, 'a> {
     }
 
     // 3 for unsound tables, 4 for a row that is no stored one, otherwise done.
-    pub fn includes_check(&self, row: usize) -> Verdict
+    #[tactic(auto, unfolding(crate::specs::Includes::includes_check))]
+    pub fn includes_check(&self, row: usize) -> Result<(), Refusal>
         ensures { reported_verdict result ≡ includes_check (store_in self.now) row }
     {
-        if !self.is_sound(MAX_AUTHORITIES) {
-            return Verdict::Refused(Refusal::BadTable);
-        }
-        if self.stored <= row {
-            return Verdict::Refused(Refusal::BadArgument);
-        }
-        Verdict::Done
+        refuse_unless(self.is_sound(MAX_AUTHORITIES), Refusal::BadTable)?;
+        refuse_unless(row < self.stored, Refusal::BadArgument)
     }
 }

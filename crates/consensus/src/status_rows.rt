@@ -7,7 +7,7 @@ ghost use Rattle.consensus.specs.Left.{statuses_left};
 use crate::LeaderStatus;
 use crate::parts::status_of;
 
-#[derive(Clone, Copy)]
+#[derive(Clone, Copy, Debug, PartialEq, Eq)]
 pub struct Statuses<'a> {
     words: &'a [u64],
 }

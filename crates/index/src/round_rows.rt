@@ -4,11 +4,12 @@ ghost use Rattle.std.specs.Iterator.{YieldsFirst, item_count};
 ghost use Rattle.index.specs.Rounds.{rows_of_round};
 ghost use Rattle.index.specs.RoundRows.{rows_left};
 
-use crate::keys::{BLOCK_WORDS, field};
+use crate::keys::Keys;
 use crate::lookup::{first_of_round, row_at};
 use types::RoundNumber;
 
-#[derive(Clone, Copy)]
+// The rows of a round that are left.
+#[derive(Clone, Copy, Debug, PartialEq, Eq)]
 pub struct RoundRows<'a> {
     blocks: &'a [u64],
     order: &'a [u16],
@@ -18,6 +19,7 @@ pub struct RoundRows<'a> {
 }
 
 impl<'a> RoundRows<'a> {
+    // All rows of a round.
     #[tactic(auto, unfolding(crate::specs::Rounds::rows_of_round))]
     pub fn new(
         blocks: &'a [u64],
@@ -50,7 +52,7 @@ impl<'a> Iterator for RoundRows<'a> {
             return None;
         }
         let row = row_at(self.order, self.next);
-        if field(self.blocks, BLOCK_WORDS, row, 1) != self.round.0 {
+        if Keys::of_blocks(self.blocks).field(row, 1) != self.round.0 {
             return None;
         }
         self.next += 1;

@@ -12,4 +12,4 @@ returns-then-not-is_sound c = rw (sym c.is_sound.ensures ∙ c.if-not-is_sound.t
 pub returns : goal.returns
 returns c =
     let a = c.args in
-    c.includes_of.ensures ∙ given-row (store_in a.self) a.row (sym c.is_sound.ensures ∙ c.if-not-is_sound.false)
+    c.includes_of.ensures ∙ given-row (store_in a.self.now) a.row (sym c.is_sound.ensures ∙ c.if-not-is_sound.false)
