@@ -6,7 +6,6 @@ use crate::{
     clock_calls, committee_calls, committer_calls, linearizer_calls, manager_calls, status_calls,
     store_calls, type_calls,
 };
-use types::{AuthorityIndex, Stake};
 
 // Makes the call of a number, and puts its values behind what stands in the response.
 pub fn made(number: u64, q: Request, out: &mut Response) -> Answered {
@@ -23,13 +22,11 @@ pub fn made(number: u64, q: Request, out: &mut Response) -> Answered {
         Call::CommitteeLen => committee_calls::len(q, out),
         Call::CommitteeAuthorities => committee_calls::authorities(q, out),
         Call::CommitteeGetStake => committee_calls::get_stake(q, out),
-        Call::CommitteeKnownAuthority => {
-            committee_calls::asked(q, out, |c, x| c.known_authority(AuthorityIndex(x)))
-        }
+        Call::CommitteeKnownAuthority => committee_calls::known_authority(q, out),
         Call::CommitteeThresholds => committee_calls::thresholds(q, out),
-        Call::CommitteeIsValid => committee_calls::asked(q, out, |c, x| c.is_valid(Stake(x))),
-        Call::CommitteeIsQuorum => committee_calls::asked(q, out, |c, x| c.is_quorum(Stake(x))),
-        Call::CommitteeIsNonZero => committee_calls::asked(q, out, |c, x| c.is_non_zero(Stake(x))),
+        Call::CommitteeIsValid => committee_calls::is_valid(q, out),
+        Call::CommitteeIsQuorum => committee_calls::is_quorum(q, out),
+        Call::CommitteeIsNonZero => committee_calls::is_non_zero(q, out),
         Call::CommitteeGetTotalStake => committee_calls::get_total_stake(q, out),
         Call::CommitteeElectLeader => committee_calls::elect_leader(q, out),
         Call::AggregatorAdd => committee_calls::add(q, out),
